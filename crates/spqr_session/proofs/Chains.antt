@@ -31,6 +31,10 @@ use Rattle.spqr_session.proofs.CountSteps.{count_step-answers, count_step-one, c
 use Rattle.spqr_session.proofs.TakeCarried.{take-answers, take-one, take-keeps}
 use Rattle.spqr_session.proofs.LongestCarried.{longest-answers, longest-stays}
 use Rattle.spqr_session.proofs.DrawCarried.{draw-answers, draw-stays}
+use Rattle.spqr_session.proofs.WholeCarried.{whole-answers, whole-one, whole-keeps}
+use Rattle.spqr_session.proofs.RegroupCarried.{regroup-answers, regroup-one, regroup-keeps}
+use Rattle.spqr_session.proofs.WholeWalks.{next_whole-answers, next_whole-one, next_whole-keeps, list_whole-answers, list_whole-one, list_whole-keeps}
+use Rattle.spqr_session.proofs.WholeConverted.{convert_whole-answers, convert_whole-one, convert_whole-keeps}
 
 -- each command that may not lack an answer has one in each state
 pub has-answer : (setting : Setting) (before : State) (command : Command) → IsSetting setting → IsState setting before → may_lack_answer command ≡ false → (text : List ℕ) × (after : State) × Step setting before command text after
@@ -56,6 +60,11 @@ has-answer setting before (command.Goto b r) is right sure = goto_step-answers s
 has-answer setting before (command.ConvertRank b r) is right sure = convert_step-answers setting b before is right r
 has-answer setting before (command.ConvertTo b entries) is right sure = convert_to-answers setting b entries before is right
 has-answer setting before (command.Take b entries) is right sure = take-answers setting b entries before is right
+has-answer setting before (command.Whole c) is right sure = whole-answers setting c before right
+has-answer setting before (command.Regroup v edges) is right sure = regroup-answers setting v edges before is right
+has-answer setting before (command.NextWhole c) is right sure = next_whole-answers setting c before is right
+has-answer setting before (command.ListWhole c n) is right sure = list_whole-answers setting c before is right n
+has-answer setting before (command.ConvertWhole c entries) is right sure = convert_whole-answers setting c entries before is right
 
 -- the text of a command that has one, whether it could have several or not
 told : {Closed One Same : Type 0} → One × Same → (Closed → One) × Same
@@ -86,6 +95,11 @@ one-answer setting before (command.Goto b r) s t after other is right p q = told
 one-answer setting before (command.ConvertRank b r) s t after other is right p q = told (convert_step-one setting b before is right r s t after other p q)
 one-answer setting before (command.ConvertTo b entries) s t after other is right p q = told (convert_to-one setting b entries before is right s t after other p q)
 one-answer setting before (command.Take b entries) s t after other is right p q = told (take-one setting b entries before is right s t after other p q)
+one-answer setting before (command.Whole c) s t after other is right p q = told (whole-one setting c before right s t after other p q)
+one-answer setting before (command.Regroup v edges) s t after other is right p q = told (regroup-one setting v edges before is right s t after other p q)
+one-answer setting before (command.NextWhole c) s t after other is right p q = told (next_whole-one setting c before is right s t after other p q)
+one-answer setting before (command.ListWhole c n) s t after other is right p q = told (list_whole-one setting c before is right n s t after other p q)
+one-answer setting before (command.ConvertWhole c entries) s t after other is right p q = told (convert_whole-one setting c entries before is right s t after other p q)
 
 -- a step leads from a state to a state
 pub step-keeps : (setting : Setting) (before : State) (command : Command) (text : List ℕ) (after : State) → IsSetting setting → IsState setting before → Step setting before command text after → IsState setting after
@@ -111,6 +125,11 @@ step-keeps setting before (command.Goto b r) text after is right p = goto_step-k
 step-keeps setting before (command.ConvertRank b r) text after is right p = convert_step-keeps setting b before is right r text after p
 step-keeps setting before (command.ConvertTo b entries) text after is right p = convert_to-keeps setting b entries before is right text after p
 step-keeps setting before (command.Take b entries) text after is right p = take-keeps setting b entries before is right text after p
+step-keeps setting before (command.Whole c) text after is right p = whole-keeps setting c before right text after p
+step-keeps setting before (command.Regroup v edges) text after is right p = regroup-keeps setting v edges before is right text after p
+step-keeps setting before (command.NextWhole c) text after is right p = next_whole-keeps setting c before is right text after p
+step-keeps setting before (command.ListWhole c n) text after is right p = list_whole-keeps setting c before is right n text after p
+step-keeps setting before (command.ConvertWhole c entries) text after is right p = convert_whole-keeps setting c entries before is right text after p
 
 -- there is a chain from each state
 chain-exists : (setting : Setting) (before : State) (commands : List Command) → IsSetting setting → IsState setting before → AllAnswered commands → (texts : List (List ℕ)) × (last : State) × IsChain setting before commands texts last

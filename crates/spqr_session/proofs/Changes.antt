@@ -1,14 +1,15 @@
 -- Commands that change a block: they do one thing, and lead from a state to a state.
-use Rattle.std.proofs.Common.{◌≡◌, ℕ, ◌<◌, ◌≤◌, Bool, true, not, List, ◌∷◌, ◌++◌, length, set, slice_index_or, Option, None, Some, inl, inr, refl, sym, ap, ◌∙◌, subst, arith}
-use Rattle.std.proofs.lemmas.Bool.{cases_eq, cases_lt, ltb-true, true≢false}
-use Rattle.std.proofs.lemmas.List.{length-set, get_or-set_same, get_or-set_other, get_or_past}
+use Rattle.std.proofs.Common.{◌≡◌, ℕ, ◌<◌, ◌≤◌, Bool, true, not, List, ◌∷◌, ◌++◌, length, Option, None, Some, inl, inr, refl, sym, ap, ◌∙◌, subst, arith}
+use Rattle.std.proofs.lemmas.Bool.{cases_lt, ltb-true, true≢false}
+use Rattle.std.proofs.lemmas.List.{get_or_past}
 use Rattle.std.proofs.lemmas.List.Elements.{All-cons, All-nil}
 use Rattle.pair_split.specs.declared.components.Kind.{Kind}
 use Rattle.pair_split.specs.declared.components.Kind.TheVariants.{S, P, R, B}
 use Rattle.kuratowski.specs.declared.subdivision.Subdivision.{Subdivision}
 use Rattle.spqr_session.specs.Trees.{BlockTree, tree_at}
 use Rattle.spqr_session.specs.Certificates.{certificate_at}
-use Rattle.spqr_session.specs.Setting.{Setting}
+use Rattle.faces.specs.Euler.{IsPlaneSystem}
+use Rattle.spqr_session.specs.Setting.{Setting, IsSetting}
 use Rattle.spqr_session.specs.State.{Embedding, Family, State, entry_at, IsEntry, IsFamily, IsState}
 use Rattle.spqr_session.specs.Codes.{Ladder, first_code}
 use Rattle.spqr_session.specs.declared.code.Code.TheVariants.{NoBlock, NoNode, WrongKind, NonPlanar}
@@ -17,6 +18,7 @@ use Rattle.pair_split.specs.Kinds.{is_rigid, is_bond}
 use Rattle.spqr_session.proofs.Carried.{DoesOne}
 use Rattle.spqr_session.proofs.Ladders.{rung-none}
 use Rattle.spqr_session.proofs.BlockCarried.{held, in-block, planar-entry, entry-same}
+use Rattle.spqr_session.proofs.KeptFamilies.{changed-right, put-right}
 
 -- ---- kinds
 
@@ -89,49 +91,51 @@ module _ (IsChange : BlockTree → Embedding → Embedding → List ℕ → Type
       let h = one q.old p.new q.new t u q.present (subst (λ (e : Embedding). IsChange (tree_at setting.trees b) e p.new t) same p.change) q.change in
       (h.1, p.after_is ∙ ap (changed setting s b) h.0 ∙ sym q.after_is)
 
--- an entry of a family is set
-family-set : (setting : Setting) (family : Family) (b : ℕ) (e : Embedding) → IsFamily setting family → (b < length setting.trees → IsEntry (tree_at setting.trees b) (certificate_at setting.certificates b) (Some e)) → IsFamily setting (record { entries = set family.entries b (Some e) })
-family-set setting family b e is right = record {
-  one_each = length-set family.entries b (Some e) ∙ is.one_each;
-  each = λ j l. elim (cases_eq j b) [
-    | inl q ↦ subst (λ (o : Option Embedding). IsEntry (tree_at setting.trees j) (certificate_at setting.certificates j) o) (sym (here j l q))
-        (subst (λ (i : ℕ). IsEntry (tree_at setting.trees i) (certificate_at setting.certificates i) (Some e)) (sym q) (right (subst (λ (i : ℕ). i < length setting.trees) q l)))
-    | inr n ↦ subst (λ (o : Option Embedding). IsEntry (tree_at setting.trees j) (certificate_at setting.certificates j) o) (sym (get_or-set_other family.entries b j (Some e) None n)) (is.each j l)
-  ];
-}
-  where
-    here : (j : ℕ) → j < length setting.trees → j ≡ b → slice_index_or (set family.entries b (Some e)) j None ≡ Some e
-    here j l q = subst (λ (i : ℕ). slice_index_or (set family.entries b (Some e)) i None ≡ Some e) (sym q) (get_or-set_same family.entries b (Some e) None (omega (arith, l, q, is.one_each)))
-
 -- an entry where there is one before
 entry-along : (tree : BlockTree) (certificate : Option Subdivision) (old new : Embedding) → IsEntry tree certificate (Some old) → IsEntry tree None (Some new) → IsEntry tree certificate (Some new)
 entry-along tree None old new p q = q
 entry-along tree (Some c) old new p q = absurd p
 
--- a state in which an entry is set to a right one is a state
-pub entry-keeps : (setting : Setting) (b : ℕ) (old new : Embedding) (s : State) → IsState setting s → entry_at s.present b ≡ Some old
-    → (b < length setting.trees → IsEntry (tree_at setting.trees b) None (Some old) → IsEntry (tree_at setting.trees b) None (Some new)) → IsState setting (with_entry s b new)
-entry-keeps setting b old new s is at keeps = record {
-  present = family-set setting s.present b new is.present right;
-  earlier = All-cons (IsFamily setting) s.present s.earlier is.present is.earlier;
-  later = All-nil (IsFamily setting);
-}
-  where
-    plain : (certificate : Option Subdivision) → IsEntry (tree_at setting.trees b) certificate (Some old) → IsEntry (tree_at setting.trees b) None (Some old)
-    plain None p = p
-    plain (Some x) p = absurd p
+-- the entry of a block without a certificate
+entry-plain : (tree : BlockTree) (certificate : Option Subdivision) (e : Embedding) → IsEntry tree certificate (Some e) → IsEntry tree None (Some e)
+entry-plain tree None e p = p
+entry-plain tree (Some x) e p = absurd p
 
-    right : b < length setting.trees → IsEntry (tree_at setting.trees b) (certificate_at setting.certificates b) (Some new)
-    right l =
-        let before : IsEntry (tree_at setting.trees b) (certificate_at setting.certificates b) (Some old) =
-        subst (λ (o : Option Embedding). IsEntry (tree_at setting.trees b) (certificate_at setting.certificates b) o) at (is.present.each b l) in
-        entry-along (tree_at setting.trees b) (certificate_at setting.certificates b) old new before (keeps l (plain (certificate_at setting.certificates b) before))
+module _ (setting : Setting) (is : IsSetting setting) (b : ℕ) (old new : Embedding) (s : State) (right : IsState setting s) (at : entry_at s.present b ≡ Some old) where
+  -- the block is there
+  there : b < length setting.trees
+  there = subst (λ (n : ℕ). b < n) right.present.one_each (entry-within s.present b old at)
 
--- so is one whose embedding is changed to a right one
-pub change-keeps : (IsChange : BlockTree → Embedding → Embedding → List ℕ → Type 0) (setting : Setting) (b : ℕ) (s : State) (text : List ℕ) (after : State) → IsState setting s → ChangesBlock setting b IsChange s text after
+  old_entry : IsEntry (tree_at setting.trees b) (certificate_at setting.certificates b) (Some old)
+  old_entry = subst (λ (o : Option Embedding). IsEntry (tree_at setting.trees b) (certificate_at setting.certificates b) o) at (right.present.each b there)
+
+  old_plain : IsEntry (tree_at setting.trees b) None (Some old)
+  old_plain = entry-plain (tree_at setting.trees b) (certificate_at setting.certificates b) old old_entry
+
+  -- a state in which a block is changed to a right embedding is a state
+  pub changed-keeps : IsEntry (tree_at setting.trees b) None (Some new) → IsState setting (changed setting s b new)
+  changed-keeps new_entry = record {
+    present = changed-right setting is s.present right.present b old new there at (entry-along (tree_at setting.trees b) (certificate_at setting.certificates b) old new old_entry new_entry) old_plain.0 new_entry.0;
+    earlier = All-cons (IsFamily setting) s.present s.earlier right.present right.earlier;
+    later = All-nil (IsFamily setting);
+  }
+
+  -- so is one in which its locks are
+  pub put-keeps : new.rotation ≡ old.rotation → length new.locks ≡ length old.locks → IsState setting (with_entry s b new)
+  put-keeps rotation locks = record {
+    present = put-right setting is s.present right.present b old new there at (entry-along (tree_at setting.trees b) (certificate_at setting.certificates b) old new old_entry
+        (subst (IsPlaneSystem (tree_at setting.trees b).part.graph) (sym rotation) old_plain.0, locks ∙ old_plain.1)) rotation;
+    earlier = All-cons (IsFamily setting) s.present s.earlier right.present right.earlier;
+    later = All-nil (IsFamily setting);
+  }
+
+-- a command that changes a block to a right embedding leads from a state to a state
+pub change-keeps : (IsChange : BlockTree → Embedding → Embedding → List ℕ → Type 0) (setting : Setting) (b : ℕ) (s : State) (text : List ℕ) (after : State) → IsSetting setting → IsState setting s → ChangesBlock setting b IsChange s text after
     → ((old new : Embedding) (t : List ℕ) → b < length setting.trees → entry_at s.present b ≡ Some old → IsEntry (tree_at setting.trees b) None (Some old) → IsChange (tree_at setting.trees b) old new t → IsEntry (tree_at setting.trees b) None (Some new))
     → IsState setting after
-change-keeps IsChange setting b s text after is c keeps = subst (IsState setting) (sym c.after_is) (entry-keeps setting b c.old c.new s is c.present (λ l e. keeps c.old c.new text l c.present e c.change))
+change-keeps IsChange setting b s text after is right c keeps = subst (IsState setting) (sym c.after_is)
+    (changed-keeps setting is b c.old c.new s right c.present
+    (keeps c.old c.new text (there setting is b c.old c.new s right c.present) c.present (old_plain setting is b c.old c.new s right c.present) c.change))
 
 -- the entry of a block of a state, where there is one
 pub entry-right : (setting : Setting) (s : State) (b : ℕ) (e : Embedding) → IsState setting s → b < length setting.trees → entry_at s.present b ≡ Some e → IsEntry (tree_at setting.trees b) None (Some e)

@@ -37,6 +37,27 @@ pub mod ConvertPlans
 pub mod GreatestFaces
 pub mod LongestCarried
 pub mod DrawCarried
+pub mod ComponentParts
+pub mod ComponentCarried
+pub mod WholeCarried
+pub mod RegroupCodes
+pub mod RegroupCarried
+pub mod KeptLists
+pub mod WholesMade
+pub mod VertexPlaces
+pub mod BoardArranged
+pub mod RegroupMade
+pub mod WholeFamilies
+pub mod WholeWalks
+pub mod WholeTakings
+pub mod WholeConverted
+pub mod VertexLists
+pub mod WholeSteps
+pub mod KeptWholes
+pub mod WholesWalked
+pub mod WholesPut
+pub mod WholesConverted
+pub mod WholesFirst
 pub mod Chains
 pub mod Steps
 pub mod DisjointLists
@@ -51,6 +72,9 @@ pub mod Grouped
 pub mod Moved
 pub mod Walks
 mod MovedExamples
+pub mod ListsSet
+pub mod KeptFamilies
+pub mod Started
 pub mod Families
 pub mod Boards
 pub mod WaysBack

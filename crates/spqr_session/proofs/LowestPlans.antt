@@ -6,7 +6,7 @@ use Rattle.spqr_session.specs.State.{Embedding}
 use Rattle.spqr_session.specs.Embedded.{BlockView}
 use Rattle.spqr_session.specs.Scene.{setting_on}
 use Rattle.spqr_session.specs.declared.scene.Scene.{Scene}
-use Rattle.spqr_session.specs.Board.{BoardView, board_state, IsCarried}
+use Rattle.spqr_session.specs.Board.{BoardView, IsCarried, state_on, BelongTogether}
 use Rattle.spqr_session.specs.Codes.{Ladder, rises_above, Applies, Carries}
 use Rattle.spqr_session.specs.BlockCodes.{ChangesBlock, Silently}
 use Rattle.spqr_session.specs.Commands.Convert.{conversion_text, WithMoves}
@@ -16,7 +16,7 @@ use Rattle.spqr_session.specs.declared.planned.Planned.{Planned}
 use Rattle.spqr_session.specs.declared.planned.Planned.TheVariants.{Refused, End, Change}
 use Rattle.spqr_session.proofs.Views.{trees-at, entries-at}
 use Rattle.spqr_session.proofs.Ladders.{first-lowest, none-first}
-use Rattle.spqr_session.proofs.Plans.{changed-seen, changed-carried}
+use Rattle.spqr_session.proofs.Plans.{changed-seen}
 
 -- a plan told by a ladder is one
 pub ladder-lowest : (ladder : Ladder) → rises_above 0 ladder ≡ true → (IsChange : BlockTree → Embedding → Embedding → Type 0) (views : List BlockView) (b : ℕ) (planned : Planned) → IsPlanAt ladder IsChange views b planned → IsLowestPlanAt (Applies ladder) IsChange views b planned
@@ -31,11 +31,11 @@ module _ (applies : Code → Type 0) (IsChange : BlockTree → Embedding → Emb
   lowest-stands views b End p = absurd p
   lowest-stands views b (Change x) p = (p.0, p.2.0)
 
-  module _ (scene : Scene) (b : ℕ) (before after : BoardView) where
+  module _ (scene : Scene) (before : BoardView) (together : BelongTogether scene before) (b : ℕ) (after : BoardView) where
     -- carried out with `ok`, it is a step
     pub lowest-settled : (planned : Planned) (text : List ℕ) → IsLowestPlanAt applies IsChange before.views b planned → IsSettled b planned before text after
-        → Carries applies (ChangesBlock (setting_on scene before.views) b (Silently IsChange)) (board_state before) text (board_state after)
-    lowest-settled (Refused code) text p q = inl (record { code = code; lowest = p; line = q.0; stays = ap board_state q.1 })
+        → Carries applies (ChangesBlock (setting_on scene before.views) b (Silently IsChange)) (state_on scene before.views before) text (state_on scene before.views after)
+    lowest-settled (Refused code) text p q = inl (record { code = code; lowest = p; line = q.0; stays = ap (state_on scene before.views) q.1 })
     lowest-settled End text p q = absurd p
     lowest-settled (Change x) text p q = inr (
       p.1,
@@ -44,14 +44,14 @@ module _ (applies : Code → Type 0) (IsChange : BlockTree → Embedding → Emb
         present = entries-at before.views b ∙ p.2.0.present;
         new = embedding_of x;
         change = (subst (λ (t : BlockTree). IsChange t p.2.0.old (embedding_of x)) (sym (trees-at before.views b)) p.2.1, q.0);
-        after_is = ap board_state q.1 ∙ changed-seen (setting_on scene before.views) before b (embedding_of x);
+        after_is = changed-seen scene before together b p.2.0.old (record { within = p.0; entry = p.2.0.present }) (embedding_of x) after q.1;
       },
     )
 
     -- and so it is with the moves told
     pub lowest-converted : (planned : Planned) (text : List ℕ) → IsLowestPlanAt applies IsChange before.views b planned → IsConverted b planned before text after
-        → Carries applies (ChangesBlock (setting_on scene before.views) b (WithMoves IsChange)) (board_state before) text (board_state after)
-    lowest-converted (Refused code) text p q = inl (record { code = code; lowest = p; line = q.0; stays = ap board_state q.1 })
+        → Carries applies (ChangesBlock (setting_on scene before.views) b (WithMoves IsChange)) (state_on scene before.views before) text (state_on scene before.views after)
+    lowest-converted (Refused code) text p q = inl (record { code = code; lowest = p; line = q.0; stays = ap (state_on scene before.views) q.1 })
     lowest-converted End text p q = absurd p
     lowest-converted (Change x) text p q = inr (
       p.1,
@@ -63,7 +63,7 @@ module _ (applies : Code → Type 0) (IsChange : BlockTree → Embedding → Emb
           subst (λ (t : BlockTree). IsChange t p.2.0.old (embedding_of x)) (sym (trees-at before.views b)) p.2.1,
           q.0 p.2.0.old p.2.0.present ∙ ap (λ (t : BlockTree). conversion_text t p.2.0.old (embedding_of x)) (sym (trees-at before.views b)),
         );
-        after_is = ap board_state q.1 ∙ changed-seen (setting_on scene before.views) before b (embedding_of x);
+        after_is = changed-seen scene before together b p.2.0.old (record { within = p.0; entry = p.2.0.present }) (embedding_of x) after q.1;
       },
     )
 
@@ -71,7 +71,7 @@ module _ (applies : Code → Type 0) (IsChange : BlockTree → Embedding → Emb
 converted-carried : (b : ℕ) (planned : Planned) (before after : BoardView) (text : List ℕ) → IsConverted b planned before text after → IsCarried before.views after.views
 converted-carried b (Refused code) before after text q = subst (λ (x : BoardView). IsCarried before.views x.views) (sym q.1) (record { trees = refl; certificates = refl })
 converted-carried b End before after text q = subst (λ (x : BoardView). IsCarried before.views x.views) (sym q.1) (record { trees = refl; certificates = refl })
-converted-carried b (Change x) before after text q = subst (λ (y : BoardView). IsCarried before.views y.views) (sym q.1) (changed-carried before.views b (embedding_of x))
+converted-carried b (Change x) before after text q = q.1.goes.carried
 
 pub either-converted : {E : Type 0} (r : Result (Vec ℕ) E) (b : ℕ) (planned : Planned) (before after : BoardView) → IfOk r (λ text. IsConverted b planned before text.items after) → OnErr r (after ≡ before) → IsCarried before.views after.views
 either-converted (Ok text) b planned before after h e = converted-carried b planned before after text.items h

@@ -154,7 +154,7 @@ module _ (setting : Setting) (b : ℕ) (s : State) (is : IsSetting setting) (rig
       silently-one (StandsAt r) here old new next x y (λ m n. at-one here old new next r (tree-of l) (entry-right setting s b old right l at) m n) c d)
 
   stand-keeps : (r : ℕ) (text : List ℕ) (after : State) → ChangesBlock setting b (Silently (StandsAt r)) s text after → IsState setting after
-  stand-keeps r text after c = change-keeps (Silently (StandsAt r)) setting b s text after right c (λ old new t l at e d. at-right here old new r (tree-of l) e d.0)
+  stand-keeps r text after c = change-keeps (Silently (StandsAt r)) setting b s text after is right c (λ old new t l at e d. at-right here old new r (tree-of l) e d.0)
 
   pub first-answers : (text : List ℕ) × (after : State) × FirstStep setting b s text after
   first-answers = ladder-answers (block_ladder setting.trees b s) refl (ChangesBlock setting b (Silently (StandsAt 0))) s (λ none.
@@ -255,5 +255,5 @@ module _ (setting : Setting) (b : ℕ) (s : State) (is : IsSetting setting) (rig
   pub next-keeps : (text : List ℕ) (after : State) → NextStep setting b s text after → IsState setting after
   next-keeps text after (inl p) = subst (IsState setting) (sym p.stays) right
   next-keeps text after (inr (n, inl p)) = subst (IsState setting) (sym p.stays) right
-  next-keeps text after (inr (n, inr p)) = change-keeps (Silently StandsBehind) setting b s text after right p (λ old new t l at e d.
+  next-keeps text after (inr (n, inr p)) = change-keeps (Silently StandsBehind) setting b s text after is right p (λ old new t l at e d.
       let m = listed here old (tree-of l) e in member-right here old new m.list (m.place + 1) e m.are (d.0.next m.list m.place m.are m.rank) d.0.locks)

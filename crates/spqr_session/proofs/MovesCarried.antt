@@ -39,7 +39,7 @@ use Rattle.spqr_session.proofs.SettingTrees.{setting-tree}
 use Rattle.spqr_session.proofs.Carried.{DoesOne}
 use Rattle.spqr_session.proofs.Ladders.{rung-none, ladder-answers, ladder-one}
 use Rattle.spqr_session.proofs.BlockCarried.{held, in-block, planar-entry, entry-same, none-front, block-entry, entry-rises}
-use Rattle.spqr_session.proofs.Changes.{node-facts, rigid-is, bond-is, change-does, entry-keeps, change-keeps, entry-right, entry-block, silently-one, embedding-same}
+use Rattle.spqr_session.proofs.Changes.{node-facts, rigid-is, bond-is, change-does, put-keeps, change-keeps, entry-right, entry-block, silently-one, embedding-same}
 use Rattle.std.proofs.lemmas.Bool.{ltb-true}
 
 -- ---- moves of a node
@@ -84,7 +84,7 @@ module _ (setting : Setting) (b k : ℕ) (s : State) (is : IsSetting setting) (r
 
   pub flip-keeps : (text : List ℕ) (after : State) → FlipStep setting b k s text after → IsState setting after
   flip-keeps text after (inl p) = subst (IsState setting) (sym p.stays) right
-  flip-keeps text after (inr p) = change-keeps (Silently (IsFlipped k)) setting b s text after right p.1 (λ old new t l at e c. move-keeps setting s b is right (flip k) old new l e c.0.leads c.0.locks)
+  flip-keeps text after (inr p) = change-keeps (Silently (IsFlipped k)) setting b s text after is right p.1 (λ old new t l at e c. move-keeps setting s b is right (flip k) old new l e c.0.leads c.0.locks)
 
 -- ---- permute
 
@@ -182,7 +182,7 @@ module _ (setting : Setting) (b k : ℕ) (keys : List ℕ) (s : State) (is : IsS
 
   pub permute-keeps : (text : List ℕ) (after : State) → PermuteStep setting b k keys s text after → IsState setting after
   permute-keeps text after (inl p) = subst (IsState setting) (sym p.stays) right
-  permute-keeps text after (inr p) = change-keeps (Silently (IsPermuted k keys)) setting b s text after right p.1
+  permute-keeps text after (inr p) = change-keeps (Silently (IsPermuted k keys)) setting b s text after is right p.1
       (λ old new t l at e c. move-keeps setting s b is right (permute k (inner_edges (tree_at setting.trees b) keys)) old new l e c.0.leads c.0.locks)
 
 -- ---- mirror
@@ -205,7 +205,7 @@ module _ (setting : Setting) (b : ℕ) (s : State) (is : IsSetting setting) (rig
 
   pub mirror-keeps : (text : List ℕ) (after : State) → MirrorStep setting b s text after → IsState setting after
   mirror-keeps text after (inl p) = subst (IsState setting) (sym p.stays) right
-  mirror-keeps text after (inr p) = change-keeps (Silently IsMirrored) setting b s text after right p.1 (λ old new t l at e c.
+  mirror-keeps text after (inr p) = change-keeps (Silently IsMirrored) setting b s text after is right p.1 (λ old new t l at e c.
       let g = (tree_at setting.trees b).part.graph in
       let plane : IsPlaneSystem g (mirror_image old.rotation) = record { system = mirror-system g old.rotation e.0.system; plane = mirror-image-plane g old.rotation (setting-tree setting is b l).graph e.0.system e.0.plane } in
       (subst (IsPlaneSystem g) (sym c.0.mirror) plane, ap (λ (x : List Bool). length x) c.0.locks ∙ e.1))
@@ -230,4 +230,4 @@ module _ (setting : Setting) (on : Bool) (b k : ℕ) (s : State) (is : IsSetting
   lock-keeps text after (inl p) = subst (IsState setting) (sym p.stays) right
   lock-keeps text after (inr p) =
       let old = p.1.old in
-      subst (IsState setting) (sym p.1.after_is) (entry-keeps setting b old (with_lock k on old) s right p.1.present (λ l e. (e.0, length-set old.locks k on ∙ e.1)))
+      subst (IsState setting) (sym p.1.after_is) (put-keeps setting is b old (with_lock k on old) s right p.1.present refl (length-set old.locks k on))

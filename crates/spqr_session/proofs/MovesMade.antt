@@ -12,10 +12,10 @@ use Rattle.spqr_session.specs.Trees.{BlockTree, tree_at}
 use Rattle.spqr_session.specs.State.{Embedding, State, entry_at}
 use Rattle.spqr_session.specs.Scene.{setting_on}
 use Rattle.spqr_session.specs.declared.scene.Scene.{Scene}
-use Rattle.spqr_session.specs.Embedded.{BlockView, view_tree, view_at}
+use Rattle.spqr_session.specs.Embedded.{BlockView, view_tree, view_entry, view_at}
 use Rattle.spqr_session.specs.Codes.{Ladder}
 use Rattle.spqr_session.specs.BlockCodes.{block_ladder, read_ladder, of_entry, lock_codes, kind_of}
-use Rattle.spqr_session.specs.Board.{BoardView, family_on, board_state, IsCarried, StandsAt, CanMake, AreMade, IsMirroredAt}
+use Rattle.spqr_session.specs.Board.{BoardView, IsCarried, StandsAt, CanMake, AreMade, IsMirroredAt, state_on, BelongTogether}
 use Rattle.spqr_session.specs.Planned.{IsVerdict, AreArranged}
 use Rattle.spqr_session.specs.Commands.Flip.{flip_ladder, IsFlipped, FlipStep}
 use Rattle.spqr_session.specs.Commands.Permute.{inner_edges, permute_ladder, IsPermuted, PermuteStep}
@@ -25,22 +25,22 @@ use Rattle.spqr_session.proofs.Views.{trees-at}
 use Rattle.spqr_session.proofs.BlockCarried.{none-front, block-entry}
 use Rattle.spqr_session.proofs.Changes.{node-facts, rigid-is, bond-is}
 use Rattle.spqr_session.proofs.MovesCarried.{flip-rises, permute-rises, permute-facts, mirror-rises}
-use Rattle.spqr_session.proofs.Plans.{changed-step, changed-carried, nothing-carried}
+use Rattle.spqr_session.proofs.Plans.{seen_state, changed-step, nothing-carried}
 use Rattle.spqr_session.proofs.BoardStates.{stands-at}
 use Rattle.spqr_session.proofs.WaysBack.{one-leads}
 
 -- what was found of the blocks holds in the state of the board
-pub verdict-on : (ladder : List BlockTree → State → Ladder) (seen : List BlockView) (board : BoardView) (o : Option Code) → seen ≡ board.views → ((s : State) → s.present ≡ family_on seen → IsVerdict (ladder (map view_tree seen) s) o)
-    → IsVerdict (ladder (map view_tree board.views) (board_state board)) o
-verdict-on ladder seen board o e h = (subst (λ (x : List BlockView). (s : State) → s.present ≡ family_on x → IsVerdict (ladder (map view_tree x) s) o) e h) (board_state board) refl
+pub verdict-on : (ladder : List BlockTree → State → Ladder) (seen : List BlockView) (board : BoardView) (o : Option Code) → seen ≡ board.views → ((s : State) → s.present.entries ≡ map view_entry seen → IsVerdict (ladder (map view_tree seen) s) o)
+    → IsVerdict (ladder (map view_tree board.views) (seen_state board)) o
+verdict-on ladder seen board o e h = (subst (λ (x : List BlockView). (s : State) → s.present.entries ≡ map view_entry x → IsVerdict (ladder (map view_tree x) s) o) e h) (seen_state board) refl
 
 -- trees and certificates stay
 pub made-carried : {E : Type 0} (r : Result (Vec ℕ) E) (before : BoardView) (b : ℕ) (moves : List Move) (after : BoardView) → IfOk r (λ text. AreMade before b moves after) → OnErr r (after ≡ before) → IsCarried before.views after.views
-made-carried (Ok text) before b moves after m e = subst (λ (x : BoardView). IsCarried before.views x.views) (sym m.after_is) (changed-carried before.views b (record { rotation = m.rotation; locks = m.old.locks }))
+made-carried (Ok text) before b moves after m e = m.changed.goes.carried
 made-carried (Err x) before b moves after m e = subst (λ (y : BoardView). IsCarried before.views y.views) (sym e) (nothing-carried before.views)
 
 pub mirrored-carried : (before : BoardView) (b : ℕ) (after : BoardView) → IsMirroredAt before b after → IsCarried before.views after.views
-mirrored-carried before b after m = subst (λ (x : BoardView). IsCarried before.views x.views) (sym m.after_is) (changed-carried before.views b (record { rotation = mirror_image m.old.rotation; locks = m.old.locks }))
+mirrored-carried before b after m = m.changed.goes.carried
 
 -- what holds of a text, and of what is left with it
 pub both-map : {E : Type 0} (r : Result (Vec ℕ) E) (Says Tells : List ℕ → Type 0) (Done : Type 0) → ((text : List ℕ) → Says text → Done → Tells text) → IfOk r (λ text. Says text.items) → IfOk r (λ text. Done) → IfOk r (λ text. Tells text.items)
@@ -52,7 +52,7 @@ module _ (board : BoardView) (b : ℕ) where
   trees = map view_tree board.views
 
   abbrev state : State
-  state = board_state board
+  state = seen_state board
 
   -- a block that has a tree is there
   in-views : b < length trees → b < length board.views
@@ -72,11 +72,11 @@ module _ (board : BoardView) (b : ℕ) where
       let f = (node-facts is_rigid trees b k state (of_entry (lock_codes k) (entry_at state.present b)) none).0 in
       one-can (flip k) f.entry (stands-at board b f.entry (in-views f.block) f.present) (node-in k f.node, rigid-is (kind_of (view_at board.views b).tree k) (ap (λ (t : BlockTree). is_rigid (kind_of t k)) (sym (trees-at board.views b)) ∙ f.kind))
 
-  pub flip-done : (scene : Scene) (k : ℕ) (after : BoardView) (text : List ℕ) → IsVerdict (flip_ladder trees b k state) None → text ≡ ok_text → AreMade board b (flip k ∷ []) after → FlipStep (setting_on scene board.views) b k state text (board_state after)
-  flip-done scene k after text none t m =
+  pub flip-done : (scene : Scene) → BelongTogether scene board → (k : ℕ) (after : BoardView) (text : List ℕ) → IsVerdict (flip_ladder trees b k state) None → text ≡ ok_text → AreMade board b (flip k ∷ []) after → FlipStep (setting_on scene board.views) b k (state_on scene board.views board) text (state_on scene board.views after)
+  flip-done scene together k after text none t m =
       let tree = (view_at board.views b).tree in
-      changed-step scene (flip_ladder trees b k state) (flip-rises trees b k state) (IsFlipped k) b board after m.old (record { rotation = m.rotation; locks = m.old.locks }) m.stands
-      (record { leads = one-leads tree.part.graph tree.nodes (flip k) m.old.rotation m.rotation m.lead; locks = refl }) m.after_is text t none
+      changed-step scene board together (flip_ladder trees b k (state_on scene board.views board)) (flip-rises trees b k (state_on scene board.views board)) (IsFlipped k) b after m.old (record { rotation = m.rotation; locks = m.old.locks }) m.stands
+      (record { leads = one-leads tree.part.graph tree.nodes (flip k) m.old.rotation m.rotation m.lead; locks = refl }) m.changed text t none
 
   -- ---- permute
 
@@ -91,12 +91,12 @@ module _ (board : BoardView) (b : ℕ) where
         one-can move f.entry (stands-at board b f.entry (in-views f.block) f.present) (subst (Fits (view_at board.views b).tree.nodes) (sym e)
         ((node-in k f.node, bond-is (kind_of (view_at board.views b).tree k) (ap (λ (t : BlockTree). is_bond (kind_of t k)) (sym (trees-at board.views b)) ∙ f.kind)), arranged))
 
-    pub permute-done : (scene : Scene) (move : Move) → move ≡ permute k (inner_edges (view_at board.views b).tree keys) → (after : BoardView) (text : List ℕ) → text ≡ ok_text → AreMade board b (move ∷ []) after
-        → PermuteStep (setting_on scene board.views) b k keys state text (board_state after)
-    permute-done scene move e after text t m =
+    pub permute-done : (scene : Scene) → BelongTogether scene board → (move : Move) → move ≡ permute k (inner_edges (view_at board.views b).tree keys) → (after : BoardView) (text : List ℕ) → text ≡ ok_text → AreMade board b (move ∷ []) after
+        → PermuteStep (setting_on scene board.views) b k keys (state_on scene board.views board) text (state_on scene board.views after)
+    permute-done scene together move e after text t m =
         let tree = (view_at board.views b).tree in
-        changed-step scene (permute_ladder trees b k keys state) (permute-rises trees b k keys state) (IsPermuted k keys) b board after m.old (record { rotation = m.rotation; locks = m.old.locks }) m.stands
-        (record { leads = subst (λ (x : Move). MoveLeads tree.part.graph tree.nodes x m.old.rotation m.rotation) e (one-leads tree.part.graph tree.nodes move m.old.rotation m.rotation m.lead); locks = refl }) m.after_is text t none
+        changed-step scene board together (permute_ladder trees b k keys (state_on scene board.views board)) (permute-rises trees b k keys (state_on scene board.views board)) (IsPermuted k keys) b after m.old (record { rotation = m.rotation; locks = m.old.locks }) m.stands
+        (record { leads = subst (λ (x : Move). MoveLeads tree.part.graph tree.nodes x m.old.rotation m.rotation) e (one-leads tree.part.graph tree.nodes move m.old.rotation m.rotation m.lead); locks = refl }) m.changed text t none
 
   -- ---- mirror
 
@@ -105,7 +105,7 @@ module _ (board : BoardView) (b : ℕ) where
       let at = block-entry trees b state (none-front (block_ladder trees b state) (of_entry (mirror_codes (tree_at trees b)) (entry_at state.present b)) none) in
       (at.1.0, stands-at board b at.1.0 (in-views at.0) at.1.1)
 
-  pub mirror-done : (scene : Scene) (after : BoardView) (text : List ℕ) → IsVerdict (read_ladder mirror_codes trees b state) None → text ≡ ok_text → IsMirroredAt board b after → MirrorStep (setting_on scene board.views) b state text (board_state after)
-  mirror-done scene after text none t m =
-      changed-step scene (read_ladder mirror_codes trees b state) (mirror-rises trees b state) IsMirrored b board after m.old (record { rotation = mirror_image m.old.rotation; locks = m.old.locks }) m.stands
-      (record { mirror = refl; locks = refl }) m.after_is text t none
+  pub mirror-done : (scene : Scene) → BelongTogether scene board → (after : BoardView) (text : List ℕ) → IsVerdict (read_ladder mirror_codes trees b state) None → text ≡ ok_text → IsMirroredAt board b after → MirrorStep (setting_on scene board.views) b (state_on scene board.views board) text (state_on scene board.views after)
+  mirror-done scene together after text none t m =
+      changed-step scene board together (read_ladder mirror_codes trees b (state_on scene board.views board)) (mirror-rises trees b (state_on scene board.views board)) IsMirrored b after m.old (record { rotation = mirror_image m.old.rotation; locks = m.old.locks }) m.stands
+      (record { mirror = refl; locks = refl }) m.changed text t none

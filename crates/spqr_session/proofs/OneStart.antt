@@ -1,5 +1,5 @@
 -- A session has one start: a block has one first plane rotation system, and lists are one rotation system only.
-use Rattle.std.proofs.Common.{◌≡◌, ℕ, ◌<◌, List, length, Option, None, Some, refl, sym, ◌∙◌, subst}
+use Rattle.std.proofs.Common.{◌≡◌, ℕ, ◌<◌, Bool, true, false, List, length, Option, None, Some, refl, sym, ap, ◌∙◌, subst}
 use Rattle.std.proofs.lemmas.Bool.{false_from_ne_true}
 use Rattle.std.proofs.lemmas.List.{ext_get_or}
 use Rattle.multigraph.specs.Graph.{Multigraph}
@@ -15,7 +15,8 @@ use Rattle.spqr_session.specs.Trees.{BlockTree, tree_at}
 use Rattle.spqr_session.specs.Certificates.{certificate_at}
 use Rattle.spqr_session.specs.Setting.{Setting, IsSetting}
 use Rattle.spqr_session.specs.Start.{start_entries, StartsAt}
-use Rattle.spqr_session.specs.State.{Embedding, State, entry_at, IsEntry, IsStartEntry, IsStart}
+use Rattle.whole_embed.specs.Component.{Component, BlockInPlane}
+use Rattle.spqr_session.specs.State.{Embedding, State, entry_at, arrangements_in, component_at, is_planar_component, blocks_with, AreArrangements, first_lists, IsEntry, IsStartEntry, IsStart}
 use Rattle.spqr_session.proofs.GivenParts.{given-one}
 use Rattle.spqr_session.proofs.SettingTrees.{setting-tree, setting-numbered}
 
@@ -44,12 +45,35 @@ module _ (start : Option (List (List ℕ))) (tree : BlockTree) (is : items.IsBlo
       let locks : e.locks ≡ d.locks = f.1 ∙ sym h.1 in
       λ i. Some (record { rotation = rotation i; locks = locks i })
 
+-- arrangements that are the first ones are the same
+firsts-one : (k : Component) (block : ℕ → BlockInPlane) (planar : Bool) (o u : Option (List (List ℕ))) → AreArrangements k block planar o → AreArrangements k block planar u
+    → ((lists : List (List ℕ)) → o ≡ Some lists → lists ≡ first_lists k block) → ((lists : List (List ℕ)) → u ≡ Some lists → lists ≡ first_lists k block) → o ≡ u
+firsts-one k block true None u p q f h = absurd p
+firsts-one k block true (Some x) None p q f h = absurd q
+firsts-one k block true (Some x) (Some y) p q f h = ap (λ (z : List (List ℕ)). Some z) (f x refl ∙ sym (h y refl))
+firsts-one k block false None None p q f h = refl
+firsts-one k block false None (Some y) p q f h = absurd q
+firsts-one k block false (Some x) u p q f h = absurd p
+
 pub start-one : (setting : Setting) (a b : State) → IsSetting setting → IsStart setting a → IsStart setting b → a ≡ b
-start-one setting a b is p q =
-    let entries : a.present.entries ≡ b.present.entries = ext_get_or None a.present.entries b.present.entries (p.right.present.one_each ∙ sym q.right.present.one_each)
-    (λ k l. let m : k < length setting.trees = subst (λ (n : ℕ). k < n) p.right.present.one_each l in
-    entries-one setting.named.start (tree_at setting.trees k) (setting-tree setting is k m) (setting-numbered setting is k m) (certificate_at setting.certificates k) (entry_at a.present k) (entry_at b.present k)
-    (p.right.present.each k m) (q.right.present.each k m) (p.starts k m) (q.starts k m)) in
-    let earlier : a.earlier ≡ b.earlier = p.earlier ∙ sym q.earlier in
-    let later : a.later ≡ b.later = p.later ∙ sym q.later in
-    λ i. record { present = record { entries = entries i }; earlier = earlier i; later = later i }
+start-one setting a b is p q = λ i. record { present = record { entries = entries i; arrangements = arrangements i }; earlier = earlier i; later = later i }
+  where
+    entries : a.present.entries ≡ b.present.entries
+    entries = ext_get_or None a.present.entries b.present.entries (p.right.present.one_each ∙ sym q.right.present.one_each)
+        (λ k l. let m : k < length setting.trees = subst (λ (n : ℕ). k < n) p.right.present.one_each l in
+        entries-one setting.named.start (tree_at setting.trees k) (setting-tree setting is k m) (setting-numbered setting is k m) (certificate_at setting.certificates k) (entry_at a.present k) (entry_at b.present k)
+        (p.right.present.each k m) (q.right.present.each k m) (p.starts k m) (q.starts k m))
+
+    arrangements : a.present.arrangements ≡ b.present.arrangements
+    arrangements = ext_get_or None a.present.arrangements b.present.arrangements (p.right.present.lists_each ∙ sym q.right.present.lists_each)
+        (λ c l. let m : c < setting.structure.component_count = subst (λ (n : ℕ). c < n) p.right.present.lists_each l in
+        firsts-one (component_at setting c) (blocks_with setting.trees a.present.entries) (is_planar_component setting c) (arrangements_in a.present c) (arrangements_in b.present c) (p.right.present.arranged c m)
+        (subst (λ (es : List (Option Embedding)). AreArrangements (component_at setting c) (blocks_with setting.trees es) (is_planar_component setting c) (arrangements_in b.present c)) (sym entries) (q.right.present.arranged c m))
+        (λ lists e. p.first c lists m e)
+        (λ lists e. subst (λ (es : List (Option Embedding)). lists ≡ first_lists (component_at setting c) (blocks_with setting.trees es)) (sym entries) (q.first c lists m e)))
+
+    earlier : a.earlier ≡ b.earlier
+    earlier = p.earlier ∙ sym q.earlier
+
+    later : a.later ≡ b.later
+    later = p.later ∙ sym q.later

@@ -19,20 +19,33 @@ setting-kept document named structure old new h = λ i. record { document = docu
 
 -- a step, or none where memory ran out, leads from a right session to a right one
 pub stepped-machine : {E : Type 0} (document : Document) (named : NamedGraph) (structure : BlockStructure) (command : Command) (old new : BoardView) (r : Result (Vec ℕ) E)
-    → IsMachine (record { setting = setting_of document named structure old.views; state = board_state old }) → IsCarried old.views new.views
-    → IfOk r (λ text. Step (setting_of document named structure old.views) (board_state old) command text.items (board_state new)) → OnErr r (new ≡ old)
-    → IsMachine (record { setting = setting_of document named structure new.views; state = board_state new })
+    → IsMachine (record { setting = setting_of document named structure old.views; state = board_state (setting_of document named structure old.views) old }) → IsCarried old.views new.views
+    → IfOk r (λ text. Step (setting_of document named structure old.views) (board_state (setting_of document named structure old.views) old) command text.items (board_state (setting_of document named structure old.views) new)) → OnErr r (new ≡ old)
+    → IsMachine (record { setting = setting_of document named structure new.views; state = board_state (setting_of document named structure new.views) new })
 stepped-machine document named structure command old new r h c step memory =
-    subst (λ (x : Setting). IsMachine (record { setting = x; state = board_state new })) (sym (setting-kept document named structure old.views new.views c)) (record { setting = h.setting; state = by r step memory })
+    subst (λ (x : Setting). IsMachine (record { setting = x; state = board_state x new })) (sym (setting-kept document named structure old.views new.views c)) (record { setting = h.setting; state = by r step memory })
   where
-    by : {E : Type 0} (r : Result (Vec ℕ) E) → IfOk r (λ text. Step (setting_of document named structure old.views) (board_state old) command text.items (board_state new)) → OnErr r (new ≡ old)
-        → IsState (setting_of document named structure old.views) (board_state new)
-    by (Ok text) s e = step-keeps (setting_of document named structure old.views) (board_state old) command text.items (board_state new) h.setting h.state s
-    by (Err x) s e = subst (λ (b : BoardView). IsState (setting_of document named structure old.views) (board_state b)) (sym e) h.state
+    by : {E : Type 0} (r : Result (Vec ℕ) E)
+        → IfOk r (λ text. Step (setting_of document named structure old.views) (board_state (setting_of document named structure old.views) old) command text.items (board_state (setting_of document named structure old.views) new)) → OnErr r (new ≡ old)
+        → IsState (setting_of document named structure old.views) (board_state (setting_of document named structure old.views) new)
+    by (Ok text) s e = step-keeps (setting_of document named structure old.views) (board_state (setting_of document named structure old.views) old) command text.items (board_state (setting_of document named structure old.views) new) h.setting h.state s
+    by (Err x) s e = subst (λ (b : BoardView). IsState (setting_of document named structure old.views) (board_state (setting_of document named structure old.views) b)) (sym e) h.state
+
+-- what is seen of a session with a board
+abbrev pub machine_on : Document → NamedGraph → BlockStructure → BoardView → Machine
+machine_on document named structure board = record { setting = setting_of document named structure board.views; state = board_state (setting_of document named structure board.views) board }
 
 -- without memory what is seen of a session stays
 pub memory-machine : {E : Type 0} (document : Document) (named : NamedGraph) (structure : BlockStructure) (old new : BoardView) (r : Result (Vec ℕ) E) (seen : Machine)
-    → record { setting = setting_of document named structure old.views; state = board_state old } ≡ seen → OnErr r (new ≡ old)
-    → OnErr r (record { setting = setting_of document named structure new.views; state = board_state new } ≡ seen)
+    → machine_on document named structure old ≡ seen → OnErr r (new ≡ old) → OnErr r (machine_on document named structure new ≡ seen)
 memory-machine document named structure old new (Ok text) seen is e = tt
-memory-machine document named structure old new (Err x) seen is e = ap (λ (b : BoardView). record { setting = setting_of document named structure b.views; state = board_state b }) e ∙ is
+memory-machine document named structure old new (Err x) seen is e = ap (machine_on document named structure) e ∙ is
+
+-- the step is one of what was seen, to what is seen now
+pub step-seen : {E : Type 0} (document : Document) (named : NamedGraph) (structure : BlockStructure) (command : Command) (old new : BoardView) (r : Result (Vec ℕ) E) (seen : Machine) → machine_on document named structure old ≡ seen → IsCarried old.views new.views
+    → IfOk r (λ text. Step (setting_of document named structure old.views) (board_state (setting_of document named structure old.views) old) command text.items (board_state (setting_of document named structure old.views) new))
+    → IfOk r (λ text. Step seen.setting seen.state command text.items (machine_on document named structure new).state)
+step-seen document named structure command old new r seen is c step =
+    subst (λ (m : Machine). IfOk r (λ text. Step m.setting m.state command text.items (machine_on document named structure new).state)) is
+    (subst (λ (x : Setting). IfOk r (λ text. Step (setting_of document named structure old.views) (board_state (setting_of document named structure old.views) old) command text.items (board_state x new)))
+    (sym (setting-kept document named structure old.views new.views c)) step)

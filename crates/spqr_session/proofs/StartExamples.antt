@@ -26,7 +26,7 @@ sorted = refl
 
 -- block by block, of a planar one in the present order
 written : present_lists 3 (record { part = first; nodes = [] } ∷ record { part = second; nodes = [] } ∷ [])
-    (record { entries = None ∷ Some (record { rotation = (0 ∷ 2 ∷ 1 ∷ []) ∷ (0 ∷ 1 ∷ 2 ∷ []) ∷ []; locks = [] }) ∷ [] })
+    (record { entries = None ∷ Some (record { rotation = (0 ∷ 2 ∷ 1 ∷ []) ∷ (0 ∷ 1 ∷ 2 ∷ []) ∷ []; locks = [] }) ∷ []; arrangements = [] })
     ≡ (1 ∷ 4 ∷ 2 ∷ []) ∷ (0 ∷ 3 ∷ 1 ∷ 2 ∷ 4 ∷ []) ∷ (0 ∷ 3 ∷ []) ∷ []
 unfolding first second
 written = refl

@@ -97,4 +97,4 @@ module _ (setting : Setting) (b : ℕ) (entries : List (ℕ × List ℕ)) (s : S
 
   pub take-keeps : (text : List ℕ) (after : State) → TakeStep setting b entries s text after → IsState setting after
   take-keeps text after (inl p) = subst (IsState setting) (sym p.stays) right
-  take-keeps text after (inr p) = change-keeps (Silently (IsTaken entries)) setting b s text after right p.1 (λ old new t l at e c. taken-right entries tree old new e c.0)
+  take-keeps text after (inr p) = change-keeps (Silently (IsTaken entries)) setting b s text after is right p.1 (λ old new t l at e c. taken-right entries tree old new e c.0)

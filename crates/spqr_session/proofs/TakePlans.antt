@@ -10,8 +10,7 @@ use Rattle.skel_embed.specs.Taken.{IsLeastOther}
 use Rattle.skel_embed.specs.Taken as taken
 use Rattle.spqr_session.specs.Trees.{BlockTree}
 use Rattle.spqr_session.specs.State.{Embedding, State}
-use Rattle.spqr_session.specs.Embedded.{BlockView, view_tree, view_at}
-use Rattle.spqr_session.specs.Board.{family_on}
+use Rattle.spqr_session.specs.Embedded.{BlockView, view_tree, view_entry, view_at}
 use Rattle.spqr_session.specs.Codes.{IsLowest, NoneApplies}
 use Rattle.spqr_session.specs.Commands.Take.{IsLockedOut, TakeApplies, IsTaken}
 use Rattle.spqr_session.specs.Planned.{embedding_of, IsLowestPlan, IsLowestPlanAt, TakenCodes, EntryTakenCodes, IsTakePlan}
@@ -74,7 +73,7 @@ module _ (entries : List (ℕ × List ℕ)) (v : BlockView) where
 
 -- ---- from the block to the blocks
 
-module _ (entries : List (ℕ × List ℕ)) (views : List BlockView) (b : ℕ) (s : State) (present : s.present ≡ family_on views) where
+module _ (entries : List (ℕ × List ℕ)) (views : List BlockView) (b : ℕ) (s : State) (present : s.present.entries ≡ map view_entry views) where
   -- there is no such block
   pub take-missed : length views ≤ b → IsLowestPlanAt (TakeApplies (map view_tree views) b entries s) (IsTaken entries) views b (Refused NoBlock)
   take-missed l = outside-lowest entries (map view_tree views) b s (omega (arith, l, length-map views view_tree))

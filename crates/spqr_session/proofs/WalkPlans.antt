@@ -6,10 +6,10 @@ use Rattle.skel_embed.specs.Block.{BlockState}
 use Rattle.embed_enum.specs.Walk.{KeepsRest}
 use Rattle.spqr_session.specs.Trees.{BlockTree}
 use Rattle.spqr_session.specs.State.{Embedding, State, entry_at}
-use Rattle.spqr_session.specs.Embedded.{BlockView, view_tree, view_at}
+use Rattle.spqr_session.specs.Embedded.{BlockView, view_tree, view_entry, view_at}
 use Rattle.spqr_session.specs.Scene.{setting_on}
 use Rattle.spqr_session.specs.declared.scene.Scene.{Scene}
-use Rattle.spqr_session.specs.Board.{BoardView, family_on, board_state}
+use Rattle.spqr_session.specs.Board.{BoardView, state_on, BelongTogether}
 use Rattle.spqr_session.specs.Codes.{Ladder, first_code}
 use Rattle.spqr_session.specs.BlockCodes.{is_block, planar_codes, block_ladder, entry_codes, of_entry}
 use Rattle.spqr_session.specs.Members.{is_over, StandsAt, StandsBehind, StandsLast}
@@ -77,7 +77,7 @@ module _ (v : BlockView) (p : BlockState) (seen : SeenPlane v p) where
 
 -- ---- next, from the block to the blocks
 
-module _ (views : List BlockView) (b : ℕ) (s : State) (present : s.present ≡ family_on views) where
+module _ (views : List BlockView) (b : ℕ) (s : State) (present : s.present.entries ≡ map view_entry views) where
   abbrev whole : Ladder
   whole = block_ladder (map view_tree views) b s
 
@@ -101,24 +101,24 @@ next-stands ladder views b End p = tt
 next-stands ladder views b (Change x) p = (p.0, p.2.0)
 
 -- what comes of it is a step
-pub next-settled : (scene : Scene) (b : ℕ) (before after : BoardView) (planned : Planned) (text : List ℕ) → IsNextPlanAt (block_ladder (map view_tree before.views) b (board_state before)) before.views b planned → IsSettled b planned before text after
-    → NextStep (setting_on scene before.views) b (board_state before) text (board_state after)
-next-settled scene b before after (Refused code) text p q =
-    subst (λ (s : State). NextStep (setting_on scene before.views) b (board_state before) text s) (sym (ap board_state q.1))
-    (refused-first (block_ladder (map view_tree before.views) b (board_state before)) refl (NextDoes (setting_on scene before.views) b) (board_state before) code text p q.0)
-next-settled scene b before after End text p q =
-    subst (λ (s : State). NextStep (setting_on scene before.views) b (board_state before) text s) (sym (ap board_state q.1))
-    (carried-out (block_ladder (map view_tree before.views) b (board_state before)) refl (NextDoes (setting_on scene before.views) b) (board_state before) text (board_state before) p.0 (inl (record {
+pub next-settled : (scene : Scene) (before : BoardView) → BelongTogether scene before → (b : ℕ) (after : BoardView) (planned : Planned) (text : List ℕ) → IsNextPlanAt (block_ladder (map view_tree before.views) b (state_on scene before.views before)) before.views b planned → IsSettled b planned before text after
+    → NextStep (setting_on scene before.views) b (state_on scene before.views before) text (state_on scene before.views after)
+next-settled scene before together b after (Refused code) text p q =
+    subst (λ (s : State). NextStep (setting_on scene before.views) b (state_on scene before.views before) text s) (sym (ap (state_on scene before.views) q.1))
+    (refused-first (block_ladder (map view_tree before.views) b (state_on scene before.views before)) refl (NextDoes (setting_on scene before.views) b) (state_on scene before.views before) code text p q.0)
+next-settled scene before together b after End text p q =
+    subst (λ (s : State). NextStep (setting_on scene before.views) b (state_on scene before.views before) text s) (sym (ap (state_on scene before.views) q.1))
+    (carried-out (block_ladder (map view_tree before.views) b (state_on scene before.views before)) refl (NextDoes (setting_on scene before.views) b) (state_on scene before.views before) text (state_on scene before.views before) p.0 (inl (record {
       embedding = p.1.entry;
       present = entries-at before.views b ∙ p.1.present;
       answer = (subst (λ (t : BlockTree). StandsLast t p.1.entry) (sym (trees-at before.views b)) p.1.last, q.0);
       stays = refl;
     })))
-next-settled scene b before after (Change x) text p q =
-    carried-out (block_ladder (map view_tree before.views) b (board_state before)) refl (NextDoes (setting_on scene before.views) b) (board_state before) text (board_state after) p.1 (inr (record {
+next-settled scene before together b after (Change x) text p q =
+    carried-out (block_ladder (map view_tree before.views) b (state_on scene before.views before)) refl (NextDoes (setting_on scene before.views) b) (state_on scene before.views before) text (state_on scene before.views after) p.1 (inr (record {
       old = p.2.0.old;
       present = entries-at before.views b ∙ p.2.0.present;
       new = embedding_of x;
       change = (subst (λ (t : BlockTree). StandsBehind t p.2.0.old (embedding_of x)) (sym (trees-at before.views b)) p.2.1, q.0);
-      after_is = ap board_state q.1 ∙ changed-seen (setting_on scene before.views) before b (embedding_of x);
+      after_is = changed-seen scene before together b p.2.0.old (record { within = p.0; entry = p.2.0.present }) (embedding_of x) after q.1;
     }))

@@ -1,5 +1,5 @@
 -- A block with its tree, and its embedding or its certificate, as contracts see it.
-use Rattle.std.specs.Prelude.{◌≡◌, ℕ, ◌<◌, Bool, false, List, [], length, map, slice_index_or, Option, None, Some, ⊤}
+use Rattle.std.specs.Prelude.{◌≡◌, ℕ, ◌<◌, Bool, false, List, length, map, slice_index_or, Option, None, Some, ⊤}
 use Rattle.blocks.specs.Blocks.{BlockStructure, block_at}
 use Rattle.gml_text.specs.Document.{Document}
 use Rattle.gml_graph.specs.Named.{NamedGraph}
@@ -14,7 +14,7 @@ use Rattle.skel_embed.specs.declared.planes.Outcome.TheVariants.{Plane, Not}
 use Rattle.spqr_session.specs.Trees.{BlockTree, IsBlockTree, no_tree}
 use Rattle.spqr_session.specs.Certificates.{IsCertificate}
 use Rattle.spqr_session.specs.Setting.{Setting}
-use Rattle.spqr_session.specs.State.{Embedding, State, IsEntry, IsStartEntry}
+use Rattle.spqr_session.specs.State.{Embedding, IsEntry, IsStartEntry}
 
 -- a block with its tree, its certificate where it is not planar, and its embedding where it is
 pub record BlockView : Type 0 where
@@ -80,10 +80,6 @@ view_at views b = slice_index_or views b no_view
 abbrev pub setting_of : Document → NamedGraph → BlockStructure → List BlockView → Setting
 setting_of document named structure views =
     record { document = document; named = named; structure = structure; trees = map view_tree views; certificates = map view_certificate views }
-
--- their state, with no family before and after it
-abbrev pub state_of : List BlockView → State
-state_of views = record { present = record { entries = map view_entry views }; earlier = []; later = [] }
 
 -- the first n blocks of a graph, in order, at the start of a session
 pub record AreStartBlocks (start : Option (List (List ℕ))) (g : Multigraph) (blocks : List (List ℕ)) (n : ℕ) (views : List BlockView) : Type 0 where

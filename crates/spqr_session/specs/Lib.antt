@@ -16,7 +16,9 @@ pub mod BlockCodes
 pub mod Components
 pub mod Members
 pub mod Planned
+pub mod Wholes
 pub mod Commands
+pub mod WholeSteps
 pub mod Products
 pub mod Step
 pub mod Open

@@ -12,7 +12,7 @@ use Rattle.spqr_script.specs.Answers.Change.{ok_text, end_text}
 use Rattle.spqr_session.specs.Trees.{BlockTree}
 use Rattle.spqr_session.specs.State.{Embedding}
 use Rattle.spqr_session.specs.Embedded.{BlockView, view_at}
-use Rattle.spqr_session.specs.Board.{BoardView, changed_board}
+use Rattle.spqr_session.specs.Board.{BoardView, IsChangedTo}
 use Rattle.spqr_session.specs.Codes.{Ladder, IsLowest, NoneApplies, code_text, first_code}
 use Rattle.spqr_session.specs.declared.code.Code.{Code}
 use Rattle.spqr_session.specs.declared.code.Code.TheVariants.{NonPlanar, BadRotation, NotGenusZero, CountOver, RankOut, Locked}
@@ -126,7 +126,7 @@ MayStand views b (Change p) = (b < length views) × FitsBlock (view_at views b) 
 abbrev pub IsSettled : ℕ → Planned → BoardView → List ℕ → BoardView → Type 0
 IsSettled b (Refused code) before text after = (text ≡ code_text code) × (after ≡ before)
 IsSettled b End before text after = (text ≡ end_text) × (after ≡ before)
-IsSettled b (Change p) before text after = (text ≡ ok_text) × (after ≡ changed_board before b (embedding_of p))
+IsSettled b (Change p) before text after = (text ≡ ok_text) × IsChangedTo before b (embedding_of p) after
 
 -- the plan of a command whose codes are no ladder, for a block with this view: the lowest code that applies, or where there is none
 -- the block in its new embedding
@@ -168,4 +168,4 @@ TellsMoves v p text = (old : Embedding) → v.entry ≡ Some old → text ≡ co
 abbrev pub IsConverted : ℕ → Planned → BoardView → List ℕ → BoardView → Type 0
 IsConverted b (Refused code) before text after = (text ≡ code_text code) × (after ≡ before)
 IsConverted b End before text after = (text ≡ end_text) × (after ≡ before)
-IsConverted b (Change p) before text after = TellsMoves (view_at before.views b) p text × (after ≡ changed_board before b (embedding_of p))
+IsConverted b (Change p) before text after = TellsMoves (view_at before.views b) p text × IsChangedTo before b (embedding_of p) after

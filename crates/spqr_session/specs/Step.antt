@@ -20,6 +20,11 @@ use Rattle.spqr_session.specs.Commands.Take.{TakeStep}
 use Rattle.spqr_session.specs.Commands.Convert.{ConvertRankStep, ConvertToStep}
 use Rattle.spqr_session.specs.Commands.Longest.{LongestStep}
 use Rattle.spqr_session.specs.Commands.Draw.{DrawStep}
+use Rattle.spqr_session.specs.Commands.Whole.{WholeStep}
+use Rattle.spqr_session.specs.Commands.Regroup.{RegroupStep}
+use Rattle.spqr_session.specs.Commands.NextWhole.{NextWholeStep}
+use Rattle.spqr_session.specs.Commands.ListWhole.{ListWholeStep}
+use Rattle.spqr_session.specs.Commands.ConvertWhole.{ConvertWholeStep}
 
 -- a command gives this text and leads to this state
 abbrev pub Step : Setting → State → Command → List ℕ → State → Type 0
@@ -45,6 +50,11 @@ Step setting before (command.Goto b r) text after = GotoStep setting b r before 
 Step setting before (command.ConvertRank b r) text after = ConvertRankStep setting b r before text after
 Step setting before (command.ConvertTo b entries) text after = ConvertToStep setting b entries before text after
 Step setting before (command.Take b entries) text after = TakeStep setting b entries before text after
+Step setting before (command.Whole c) text after = WholeStep setting c before text after
+Step setting before (command.Regroup v edges) text after = RegroupStep setting v edges before text after
+Step setting before (command.NextWhole c) text after = NextWholeStep setting c before text after
+Step setting before (command.ListWhole c n) text after = ListWholeStep setting c n before text after
+Step setting before (command.ConvertWhole c entries) text after = ConvertWholeStep setting c entries before text after
 
 -- the commands give these texts, one after another, from the one state to the other
 abbrev pub IsChain : Setting → State → List Command → List (List ℕ) → State → Type 0

@@ -1,29 +1,35 @@
 // The blocks of a session with the history of their changes.
-ghost use Rattle.std.specs.Prelude.{◌≡◌, ◌<◌, false, not, [], length, map, slice_set, IfOk, OnErr, All};
+ghost use Rattle.std.specs.Prelude.{◌≡◌, ◌<◌, ◌+◌, ℕ, List, Option, false, not, [], length, map, replicate, slice_index_or, slice_set, None, Some, IfOk, OnErr, MatchOption, All};
 ghost use Rattle.skeletons.specs.Moves.{moves_between};
 ghost use Rattle.skel_embed.specs.Values.{as_moves};
-ghost use Rattle.embed_moves.specs.Made.{Fits};
+ghost use Rattle.undo_log.specs.History.{IsStepAt};
+ghost use Rattle.undo_log.specs.declared.step.Step.{Step};
 ghost use Rattle.spqr_session.specs.State.{Embedding};
-ghost use Rattle.spqr_session.specs.Embedded.{view_tree, view_certificate, view_at, IsInPlane};
-ghost use Rattle.spqr_session.specs.Moved.{LeadBack};
-ghost use Rattle.spqr_session.specs.History.{IsStepOf, family_moved, family_locked, redone, undone};
+ghost use Rattle.spqr_session.specs.Kept.{Kept};
+ghost use Rattle.spqr_session.specs.Embedded.{BlockView, view_tree, view_certificate, view_entry, view_at, IsInPlane};
+ghost use Rattle.spqr_session.specs.Moved.{all_moved, LeadBack};
+ghost use Rattle.spqr_session.specs.History.{as_pairs, IsMoveOf, IsStepOf, pairs_moved, node_locked, entries_redone, entries_undone, lists_before, lists_after};
 ghost use Rattle.spqr_session.specs.Commands.History.{is_none};
 ghost use Rattle.spqr_session.specs.Commands.Lock.{with_lock};
-ghost use Rattle.spqr_session.specs.Board.{StandsAt, CanReplace, CanMake, AreMade, IsMirroredAt, LeadsTo, IsCarried, family_on, board_with_entry, changed_board, IsUndone, IsRedone};
+ghost use Rattle.spqr_session.specs.Board.{HavePlaces, StandsAt, CanReplace, CanMake, AreMade, IsMirroredAt, IsChangedTo, GoesTo, LeadsTo, IsCarried, kept_with_entry, kept_changed, IsUndone, IsRedone};
+ghost use Rattle.spqr_session.specs.Wholes.{kept_arranged};
 
 use crate::embedded::EmbeddedBlock;
+use crate::kept::{KeptLists, lists_after, lists_before};
 use embed_convert::moves;
+use multigraph::Numbers;
 use skel_embed::{MoveList, Outcome, PlaneBlock};
 use std::alloc::{AllocError, Global};
 use std::marker::Model;
-use undo_log::{Step, UndoLog};
+use undo_log::{Arrangement, BlockMove, BlockMoves, Step, UndoLog};
 
-/// The blocks of a session, and the changes made since its start. Contracts see the blocks, and the families of embeddings that
-/// were before and after the present one, of each the nearest first. A change drops those after it; running out of memory leaves everything as
-/// it was.
+/// The blocks of a session with the lists at its cut vertices, and the changes made since its start. Contracts see the blocks, the lists, and
+/// what was kept before and after the present, of each the nearest first. A change drops what is after it; running out of memory leaves
+/// everything as it was.
 #[derive(Drop)]
 pub struct Board {
     blocks: Vec<EmbeddedBlock>,
+    lists: KeptLists,
     log: UndoLog,
 }
 
@@ -32,20 +38,20 @@ impl Model for Board {
 
     ghost Value = { BoardView };
 
-    ghost view = { λ b. board_view b.blocks.items b.log };
+    ghost view = { λ b. board_view b.blocks.items b.lists b.log };
 
-    ghost invariant = { λ b. IsBoard b.blocks.items b.log };
+    ghost invariant = { λ b. IsBoard b.blocks.items b.lists b.log };
 }
 
 impl Board {
-    /// The blocks, with no change before or after. Takes no memory.
-    pub fn of(alloc: Global, blocks: Vec<EmbeddedBlock>) -> Board
-        ensures { result ≡ record { views = blocks.items; earlier = []; later = [] } }
+    /// The blocks of a graph with `n` vertices, each cut vertex with its first arrangement, and no change before or after.
+    pub fn of(alloc: Global, n: u32, blocks: Vec<EmbeddedBlock>) -> Result<Board, AllocError>
+        requires { HavePlaces (map view_tree blocks.items) n }
+        ensures { IfOk result (λ board. board ≡ record { views = blocks.items; lists = replicate n None; earlier = []; later = [] }) }
     {
-        Board {
-            blocks,
-            log: UndoLog::new(alloc),
-        }
+        let lists = KeptLists::none(alloc, n)?;
+        let log = UndoLog::new(alloc);
+        Ok(Board { blocks, lists, log })
     }
 
     /// The blocks.
@@ -55,172 +61,237 @@ impl Board {
         &self.blocks
     }
 
-    /// Whether a family is earlier.
+    /// A list may be kept at each vertex of a block. For proofs alone: does nothing.
+    pub fn keeps_places(&self)
+        ensures { HavePlaces (map view_tree self.now.views) (length self.now.lists) }
+    {
+        let _ = self.blocks.len();
+    }
+
+    /// The list that is kept at vertex `v`.
+    pub fn list_at(&self, v: u32) -> Option<&[u32]>
+        ensures { MatchOption result (slice_index_or self.now.lists v None ≡ None)
+            (λ list. slice_index_or self.now.lists v None ≡ Some list.now) }
+    {
+        self.lists.at(v)
+    }
+
+    /// The lists that are kept.
+    pub fn kept(&self) -> &KeptLists
+        ensures { result.now ≡ self.now.lists }
+    {
+        &self.lists
+    }
+
+    /// Whether something is earlier.
     pub fn can_undo(&self) -> bool
         ensures { result ≡ not (is_none self.now.earlier) }
     {
         self.log.can_undo()
     }
 
-    /// Whether a family is later.
+    /// Whether something is later.
     pub fn can_redo(&self) -> bool
         ensures { result ≡ not (is_none self.now.later) }
     {
         self.log.can_redo()
     }
 
-    /// Puts a block in the place of block `b`: it has the same graph, tree and locks, and another rotation system, or the same.
-    /// If memory runs out it is dropped, and everything is as before.
-    pub fn put(&mut self, alloc: Global, b: u32, plane: PlaneBlock) -> Result<(), AllocError>
-        requires { (e : Embedding) × CanReplace self.old.views b e plane }
-        ensures done { IfOk result (λ _. self.new ≡ changed_board self.old b
-            (record { rotation = plane.rotation; locks = plane.locks })) }
+    /// Makes the changes of a step, and notes it. If memory runs out, everything is as before.
+    pub fn carry(&mut self, alloc: Global, step: Step) -> Result<(), AllocError>
+        requires { (kept : Kept) × LeadsTo self.old.views self.old.lists kept step }
+        ensures done { (kept : Kept) → LeadsTo self.old.views self.old.lists kept step
+            → IfOk result (λ _. GoesTo self.old kept self.new) }
         ensures memory { OnErr result (self.new ≡ self.old) }
     {
-        let step = step_to(alloc, &self.blocks, b, &plane)?;
+        let lists = lists_after(alloc, &step)?;
+        self.log.reserve()?;
+        carry_forth(&mut self.blocks, &step);
+        self.lists.set(lists);
+        self.log.note(step);
+        Ok(())
+    }
+
+    /// Puts a block in the place of block `b`: it has the same graph, tree and locks, and another rotation system, or the same.
+    /// Its cut vertices get their first arrangements. If memory runs out it is dropped, and everything is as before.
+    pub fn put(&mut self, alloc: Global, b: u32, plane: PlaneBlock) -> Result<(), AllocError>
+        requires { (e : Embedding) × CanReplace self.old.views b e plane }
+        ensures done { IfOk result (λ _. IsChangedTo self.old b
+            (record { rotation = plane.rotation; locks = plane.locks }) self.new) }
+        ensures memory { OnErr result (self.new ≡ self.old) }
+    {
+        plane.belongs();
+        let step = step_to(alloc, &self.blocks, &self.lists, b, &plane)?;
+        let lists = lists_after(alloc, &step)?;
         self.log.reserve()?;
         self.log.note(step);
+        self.lists.set(lists);
         self.blocks[b as usize].replace(plane);
         Ok(())
     }
 
-    /// Makes moves of block `b`, one after the other, no two of one node. If memory runs out, everything is as before.
+    /// Makes moves of block `b`, one after the other, no two of one node. Its cut vertices get their first arrangements. If memory runs out,
+    /// everything is as before.
     pub fn make(&mut self, alloc: Global, b: u32, forth: MoveList) -> Result<(), AllocError>
         requires { CanMake self.old.views b (as_moves forth) }
         ensures done { IfOk result (λ _. AreMade self.old b (as_moves forth) self.new) }
         ensures memory { OnErr result (self.new ≡ self.old) }
     {
-        let back = moves_back(alloc, &self.blocks, b, &forth)?;
-        self.log.reserve()?;
-        self.blocks[b as usize].carry(&forth);
-        self.log.note(Step::Moves {
-            block: b,
-            forth,
-            back,
-        });
-        Ok(())
+        let step = step_of(alloc, &self.blocks, &self.lists, b, forth)?;
+        self.carry(alloc, step)
     }
 
-    /// Reverses every rotation of block `b`. If memory runs out, everything is as before.
+    /// Reverses every rotation of block `b`. Its cut vertices get their first arrangements. If memory runs out, everything is as before.
     pub fn mirror(&mut self, alloc: Global, b: u32) -> Result<(), AllocError>
         requires { (e : Embedding) × StandsAt self.old.views b e }
         ensures done { IfOk result (λ _. IsMirroredAt self.old b self.new) }
         ensures memory { OnErr result (self.new ≡ self.old) }
     {
         let forth = self.blocks[b as usize].moves_to_mirror(alloc)?;
-        let back = moves_back(alloc, &self.blocks, b, &forth)?;
+        let step = step_of(alloc, &self.blocks, &self.lists, b, forth)?;
+        let lists = lists_after(alloc, &step)?;
         self.log.reserve()?;
+        self.log.note(step);
+        self.lists.set(lists);
         self.blocks[b as usize].mirror();
-        self.log.note(Step::Moves {
-            block: b,
-            forth,
-            back,
-        });
         Ok(())
     }
 
     /// Locks node `k` of block `b`, or takes its lock away, also where it was so already. If memory runs out, everything is as before.
-    pub fn set_lock(&mut self, b: u32, k: u32, on: bool) -> Result<(), AllocError>
+    pub fn set_lock(&mut self, alloc: Global, b: u32, k: u32, on: bool) -> Result<(), AllocError>
         requires stands { (e : Embedding) × StandsAt self.old.views b e }
         requires node { k < length (view_at self.old.views b).tree.nodes }
-        ensures done { (e : Embedding) → StandsAt self.old.views b e
-            → IfOk result (λ _. self.new ≡ board_with_entry self.old b (with_lock k on e)) }
+        ensures done { (e : Embedding) → StandsAt self.old.views b e → IfOk result
+            (λ _. GoesTo self.old (kept_with_entry self.old.views self.old.lists b (with_lock k on e)) self.new) }
         ensures memory { OnErr result (self.new ≡ self.old) }
     {
         let step = lock_step(&self.blocks, b, k, on);
-        self.log.reserve()?;
-        self.log.note(step);
-        self.blocks[b as usize].set_lock(k, on);
+        self.carry(alloc, step)
+    }
+
+    /// Keeps a list at vertex `v`. If memory runs out, everything is as before.
+    pub fn arrange(&mut self, alloc: Global, v: u32, list: Numbers) -> Result<(), AllocError>
+        ensures done { IfOk result (λ _. GoesTo self.old
+            (kept_arranged self.old.views self.old.lists v list) self.new) }
+        ensures memory { OnErr result (self.new ≡ self.old) }
+    {
+        let step = arranging(alloc, &self.lists, v, list)?;
+        self.carry(alloc, step)
+    }
+
+    /// Goes back to what was nearest earlier. If memory runs out, everything is as before.
+    pub fn undo(&mut self, alloc: Global) -> Result<(), AllocError>
+        requires { is_none self.old.earlier ≡ false }
+        ensures undone { IfOk result (λ _. IsUndone self.old self.new) }
+        ensures carried { IsCarried self.old.views self.new.views }
+        ensures memory { OnErr result (self.new ≡ self.old) }
+    {
+        let lists = earlier_lists(alloc, &self.log)?;
+        if let Ok(step) = self.log.undo() {
+            carry_back(&mut self.blocks, step);
+            self.lists.set(lists);
+        }
         Ok(())
     }
 
-    /// Goes back to the nearest earlier family. Takes no memory.
-    pub fn undo(&mut self)
-        requires { is_none self.old.earlier ≡ false }
-        ensures undone { IsUndone self.old self.new }
-        ensures trees { map view_tree self.new.views ≡ map view_tree self.old.views }
-        ensures certificates { map view_certificate self.new.views
-            ≡ map view_certificate self.old.views }
-    {
-        if let Ok(step) = self.log.undo() {
-            carry_back(&mut self.blocks, step);
-        }
-    }
-
-    /// Goes to the nearest later family. Takes no memory.
-    pub fn redo(&mut self)
+    /// Goes to what was nearest later. If memory runs out, everything is as before.
+    pub fn redo(&mut self, alloc: Global) -> Result<(), AllocError>
         requires { is_none self.old.later ≡ false }
-        ensures redone { IsRedone self.old self.new }
-        ensures trees { map view_tree self.new.views ≡ map view_tree self.old.views }
-        ensures certificates { map view_certificate self.new.views
-            ≡ map view_certificate self.old.views }
+        ensures redone { IfOk result (λ _. IsRedone self.old self.new) }
+        ensures carried { IsCarried self.old.views self.new.views }
+        ensures memory { OnErr result (self.new ≡ self.old) }
     {
+        let lists = later_lists(alloc, &self.log)?;
         if let Ok(step) = self.log.redo() {
             carry_forth(&mut self.blocks, step);
+            self.lists.set(lists);
         }
+        Ok(())
     }
 }
 
-// The moves from one block in the plane to another of the same graph and tree.
-fn moves_to(alloc: Global, p: &PlaneBlock, q: &PlaneBlock) -> Result<MoveList, AllocError>
+// ---- steps
+
+// Moves of block b; each is moved, and not copied.
+fn in_block(alloc: Global, b: u32, moves: MoveList) -> Result<BlockMoves, AllocError>
+    ensures { IfOk result (λ pairs. as_pairs pairs ≡ map (λ move. (b, move)) (as_moves moves)) }
+{
+    let moves = moves.into_vec();
+    let mut pairs = Vec::with_capacity(alloc, moves.len())?;
+    for one in moves {
+        pairs.push(BlockMove { block: b, one })?;
+    }
+    Ok(BlockMoves::of(pairs))
+}
+
+// The moves from block b in the plane to another of the same graph and tree.
+fn moves_to(alloc: Global, b: u32, p: &PlaneBlock, q: &PlaneBlock) -> Result<BlockMoves, AllocError>
     requires graph { q.now.graph ≡ p.now.graph }
     requires tree { q.now.tree ≡ p.now.tree }
-    ensures { IfOk result
-        (λ list. as_moves list ≡ moves_between p.now.tree p.now.rotation q.now.rotation) }
+    ensures { IfOk result (λ pairs. as_pairs pairs
+        ≡ map (λ move. (b, move)) (moves_between p.now.tree p.now.rotation q.now.rotation)) }
 {
-    Ok(MoveList::of(moves(alloc, p, q)?))
+    in_block(alloc, b, MoveList::of(moves(alloc, p, q)?))
 }
 
 // The step from block b to a block that takes its place.
 fn step_to(
     alloc: Global,
     blocks: &[EmbeddedBlock],
+    lists: &KeptLists,
     b: u32,
     plane: &PlaneBlock,
 ) -> Result<Step, AllocError>
     requires { (e : Embedding) × CanReplace blocks.now b e plane.now }
-    ensures { IfOk result (LeadsTo blocks.now b (record {
+    ensures { IfOk result (LeadsTo blocks.now lists.now (kept_changed blocks.now lists.now b (record {
       rotation = plane.now.rotation;
       locks = plane.now.locks;
-    })) }
+    }))) }
 {
     plane.belongs();
-    match blocks[b as usize].outcome() {
+    let block = &blocks[b as usize];
+    match block.outcome() {
         Outcome::Plane(present) => Ok(Step::Moves {
-            block: b,
-            forth: moves_to(alloc, present, plane)?,
-            back: moves_to(alloc, plane, present)?,
+            forth: moves_to(alloc, b, present, plane)?,
+            back: moves_to(alloc, b, plane, present)?,
+            cuts: lists.cleared(alloc, block.part())?,
         }),
         Outcome::Not(_, _, _) => unreachable!(),
     }
 }
 
-// Moves that lead back from where these lead.
-fn moves_back(
+// The step that makes moves of block b.
+fn step_of(
     alloc: Global,
     blocks: &[EmbeddedBlock],
+    lists: &KeptLists,
     b: u32,
-    forth: &MoveList,
-) -> Result<MoveList, AllocError>
-    requires { CanMake blocks.now b (as_moves forth.now) }
-    ensures back { (e : Embedding) → StandsAt blocks.now b e → IfOk result (λ back.
-        LeadBack (view_at blocks.now b).tree.nodes e.rotation (as_moves forth.now) (as_moves back)) }
+    forth: MoveList,
+) -> Result<Step, AllocError>
+    requires { CanMake blocks.now b (as_moves forth) }
+    ensures leads { (e : Embedding) → StandsAt blocks.now b e
+        → IfOk result (LeadsTo blocks.now lists.now (kept_changed blocks.now lists.now b (record {
+          rotation = all_moved (view_at blocks.now b).tree.nodes (as_moves forth) e.rotation;
+          locks = e.locks;
+        }))) }
     ensures plane { IsInPlane (view_at blocks.now b) }
 {
     let block = &blocks[b as usize];
     block.belongs();
-    block.back(alloc, forth)
+    let back = block.back(alloc, &forth)?;
+    Ok(Step::Moves {
+        forth: in_block(alloc, b, forth)?,
+        back: in_block(alloc, b, back)?,
+        cuts: lists.cleared(alloc, block.part())?,
+    })
 }
 
 // The step that locks node k of block b, or takes its lock away.
 fn lock_step(blocks: &[EmbeddedBlock], b: u32, k: u32, on: bool) -> Step
     requires block { b < length blocks.now }
     requires node { k < length (view_at blocks.now b).tree.nodes }
-    ensures { (e : Embedding) → StandsAt blocks.now b e
-        → LeadsTo blocks.now b (record {
-          rotation = e.rotation;
-          locks = slice_set e.locks k on;
-        }) result }
+    ensures { (e : Embedding) (lists : List (Option (List ℕ))) → StandsAt blocks.now b e
+        → LeadsTo blocks.now lists (kept_with_entry blocks.now lists b (with_lock k on e)) result }
 {
     Step::Lock {
         block: b,
@@ -230,15 +301,58 @@ fn lock_step(blocks: &[EmbeddedBlock], b: u32, k: u32, on: bool) -> Step
     }
 }
 
-// Makes moves of block b.
-fn move_block(blocks: &mut Vec<EmbeddedBlock>, b: u32, moves: &MoveList)
-    requires block { b < length blocks.old.items }
-    requires moves { All (Fits (view_at blocks.old.items b).tree.nodes) (as_moves moves.now) }
-    ensures carried { IsCarried blocks.old.items blocks.new.items }
-    ensures family { family_on blocks.new.items ≡ family_moved (map view_tree blocks.old.items) b
-        (as_moves moves.now) (family_on blocks.old.items) }
+// No moves.
+fn no_moves(alloc: Global) -> BlockMoves
+    ensures { result ≡ [] }
 {
-    blocks[b as usize].carry(moves);
+    BlockMoves::of(Vec::new(alloc))
+}
+
+// The step that keeps a list at vertex v.
+fn arranging(alloc: Global, lists: &KeptLists, v: u32, list: Numbers) -> Result<Step, AllocError>
+    ensures { (views : List BlockView) → IfOk result
+        (LeadsTo views lists.now (kept_arranged views lists.now v list)) }
+{
+    let cuts = lists.changed(alloc, v, list)?;
+    let forth = no_moves(alloc);
+    let back = no_moves(alloc);
+    Ok(Step::Moves { forth, back, cuts })
+}
+
+// ---- steps carried out
+
+// The lists that the step before the cursor sets when it is taken back.
+fn earlier_lists(alloc: Global, log: &UndoLog) -> Result<Vec<(u32, Arrangement)>, AllocError>
+    ensures { (i : ℕ) (s : Step) → i + 1 ≡ log.now.cursor → IsStepAt log.now.steps i s
+        → IfOk result (λ lists. lists.items ≡ lists_before s) }
+{
+    match log.step_before() {
+        Some(step) => lists_before(alloc, step),
+        None => Ok(Vec::new(alloc)),
+    }
+}
+
+// The lists that the step after the cursor sets.
+fn later_lists(alloc: Global, log: &UndoLog) -> Result<Vec<(u32, Arrangement)>, AllocError>
+    ensures { (s : Step) → IsStepAt log.now.steps log.now.cursor s
+        → IfOk result (λ lists. lists.items ≡ lists_after s) }
+{
+    match log.step_after() {
+        Some(step) => lists_after(alloc, step),
+        None => Ok(Vec::new(alloc)),
+    }
+}
+
+// Makes moves of blocks, one after the other.
+fn move_blocks(blocks: &mut Vec<EmbeddedBlock>, moves: &BlockMoves)
+    requires { All (IsMoveOf (map view_tree blocks.old.items)) (as_pairs moves.now) }
+    ensures carried { IsCarried blocks.old.items blocks.new.items }
+    ensures entries { map view_entry blocks.new.items ≡ pairs_moved (map view_tree blocks.old.items)
+        (as_pairs moves.now) (map view_entry blocks.old.items) }
+{
+    for pair in moves.as_slice() {
+        blocks[pair.block as usize].carry(&pair.one);
+    }
 }
 
 // Locks node k of block b, or takes its lock away.
@@ -246,25 +360,21 @@ fn lock_block(blocks: &mut Vec<EmbeddedBlock>, b: u32, k: u32, on: bool)
     requires block { b < length blocks.old.items }
     requires node { k < length (view_at blocks.old.items b).tree.nodes }
     ensures carried { IsCarried blocks.old.items blocks.new.items }
-    ensures family { family_on blocks.new.items ≡ family_locked b k on
-        (family_on blocks.old.items) }
+    ensures entries { map view_entry blocks.new.items ≡ node_locked b k on
+        (map view_entry blocks.old.items) }
 {
     blocks[b as usize].set_lock(k, on);
 }
 
-// Takes a step back.
+// Takes a step of the blocks back.
 fn carry_back(blocks: &mut Vec<EmbeddedBlock>, step: &Step)
     requires { IsStepOf (map view_tree blocks.old.items) step.now }
     ensures carried { IsCarried blocks.old.items blocks.new.items }
-    ensures family { family_on blocks.new.items ≡ undone (map view_tree blocks.old.items) step.now
-        (family_on blocks.old.items) }
+    ensures entries { map view_entry blocks.new.items ≡ entries_undone
+        (map view_tree blocks.old.items) step.now (map view_entry blocks.old.items) }
 {
     match step {
-        Step::Moves {
-            block,
-            forth: _,
-            back,
-        } => move_block(blocks, *block, back),
+        Step::Moves { back, .. } => move_blocks(blocks, back),
         Step::Lock {
             block,
             node,
@@ -274,19 +384,15 @@ fn carry_back(blocks: &mut Vec<EmbeddedBlock>, step: &Step)
     }
 }
 
-// Repeats a step.
+// Makes the changes of a step to the blocks.
 fn carry_forth(blocks: &mut Vec<EmbeddedBlock>, step: &Step)
     requires { IsStepOf (map view_tree blocks.old.items) step.now }
     ensures carried { IsCarried blocks.old.items blocks.new.items }
-    ensures family { family_on blocks.new.items ≡ redone (map view_tree blocks.old.items) step.now
-        (family_on blocks.old.items) }
+    ensures entries { map view_entry blocks.new.items ≡ entries_redone
+        (map view_tree blocks.old.items) step.now (map view_entry blocks.old.items) }
 {
     match step {
-        Step::Moves {
-            block,
-            forth,
-            back: _,
-        } => move_block(blocks, *block, forth),
+        Step::Moves { forth, .. } => move_blocks(blocks, forth),
         Step::Lock {
             block,
             node,

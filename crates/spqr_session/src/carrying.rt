@@ -3,15 +3,16 @@ ghost use Rattle.std.specs.Prelude.{◌≡◌, IfOk, OnErr};
 ghost use Rattle.spqr_session.specs.Setting.{IsSetting};
 ghost use Rattle.spqr_session.specs.State.{IsState};
 ghost use Rattle.spqr_session.specs.Scene.{setting_on};
-ghost use Rattle.spqr_session.specs.Board.{board_state, IsCarried};
+ghost use Rattle.spqr_session.specs.Board.{state_on, IsCarried};
 ghost use Rattle.spqr_session.specs.Step.{Step};
 
 use crate::board::Board;
 use crate::commands::{
-    carry_convert_rank, carry_convert_to, carry_count, carry_draw, carry_euler, carry_faces,
-    carry_first, carry_flip, carry_gml, carry_goto, carry_list, carry_lock, carry_longest,
-    carry_mirror, carry_next, carry_permute, carry_rank, carry_redo, carry_show, carry_take,
-    carry_undo,
+    carry_convert_rank, carry_convert_to, carry_convert_whole, carry_count, carry_draw,
+    carry_euler, carry_faces, carry_first, carry_flip, carry_gml, carry_goto, carry_list,
+    carry_list_whole, carry_lock, carry_longest, carry_mirror, carry_next, carry_next_whole,
+    carry_permute, carry_rank, carry_redo, carry_regroup, carry_show, carry_take, carry_undo,
+    carry_whole,
 };
 use crate::scene::Scene;
 use spqr_script::Command;
@@ -26,9 +27,9 @@ pub(crate) fn carry_out(
     command: &Command,
 ) -> Result<Vec<u8>, AllocError>
     requires setting { IsSetting (setting_on scene.now board.old.views) }
-    requires state { IsState (setting_on scene.now board.old.views) (board_state board.old) }
+    requires state { IsState (setting_on scene.now board.old.views) (state_on scene.now board.old.views board.old) }
     ensures step { IfOk result (λ text. Step (setting_on scene.now board.old.views)
-        (board_state board.old) command.now text.items (board_state board.new)) }
+        (state_on scene.now board.old.views board.old) command.now text.items (state_on scene.now board.old.views board.new)) }
     ensures setting { IsCarried board.old.views board.new.views }
     ensures memory { OnErr result (board.new ≡ board.old) }
 {
@@ -56,5 +57,10 @@ pub(crate) fn carry_out(
         Command::Draw(b) => carry_draw(alloc, board.blocks(), *b),
         Command::Lock(b, k) => carry_lock(alloc, board, *b, *k, true),
         Command::Unlock(b, k) => carry_lock(alloc, board, *b, *k, false),
+        Command::Whole(c) => carry_whole(alloc, scene, board, *c),
+        Command::Regroup(v, edges) => carry_regroup(alloc, scene, board, *v, edges.as_slice()),
+        Command::NextWhole(c) => carry_next_whole(alloc, scene, board, *c),
+        Command::ListWhole(c, n) => carry_list_whole(alloc, scene, board, *c, *n),
+        Command::ConvertWhole(c, lists) => carry_convert_whole(alloc, scene, board, *c, lists),
     }
 }

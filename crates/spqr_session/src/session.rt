@@ -23,8 +23,8 @@ use std::alloc::{AllocError, Global};
 use std::marker::Model;
 
 /// A session on a document and its graph. Contracts see its setting, which stays: the document, the graph, the blocks of the
-/// graph, and of each block its tree and its certificate, if it has one; and its state, which commands change: the embeddings.
-/// Both are always right ones.
+/// graph, and of each block its tree and its certificate, if it has one; and its state, which commands change: the embeddings, and
+/// the arrangements at cut vertices. Both are always right ones.
 #[derive(Drop)]
 pub struct Session {
     scene: Scene,
@@ -33,7 +33,7 @@ pub struct Session {
 
 impl Model for Session {
     ghost use Rattle.spqr_session.specs.Scene.{setting_on};
-    ghost use Rattle.spqr_session.specs.Board.{board_state};
+    ghost use Rattle.spqr_session.specs.Board.{state_on};
     ghost use Rattle.spqr_session.specs.Machine.{Machine, IsMachine};
     ghost use Rattle.gml_text.specs.Code.{document_code};
     ghost use Rattle.std.specs.Coded.{codes};
@@ -44,20 +44,21 @@ impl Model for Session {
 
     ghost view = { λ s. record {
       setting = setting_on s.scene s.board.views;
-      state = board_state s.board;
+      state = state_on s.scene s.board.views s.board;
     } };
 
     ghost invariant = { λ s. IsMachine
         (record {
           setting = setting_on s.scene s.board.views;
-          state = board_state s.board;
+          state = state_on s.scene s.board.views s.board;
         }) };
 }
 
 impl Session {
     /// Starts a session on a document and its graph, which is split into its blocks, and each block by the splitter; the
     /// embedder is asked once for each triconnected node of their trees. The current rotation system of each planar block is then
-    /// the one that the file gives, or where it gives none the first plane one, and no node is locked.
+    /// the one that the file gives, or where it gives none the first plane one, no node is locked, and each cut vertex of a component
+    /// whose blocks are planar has its first arrangement.
     ///
     /// Fails with `StartGenus` exactly where the file gives a planar block a rotation system that is not plane, with the least
     /// such block; fails with `Memory` only if memory runs out. Document and graph are dropped then.
@@ -76,9 +77,10 @@ impl Session {
         let blocks = split(alloc, named.graph())?;
         let mut embedded = embedded_blocks(alloc, named.graph(), &blocks, splitter, embedder)?;
         take_starts(alloc, &named, &blocks, &mut embedded)?;
+        let board = Board::of(alloc, named.graph().vertex_count(), embedded)?;
         Ok(Session {
             scene: Scene { doc, named, blocks },
-            board: Board::of(alloc, embedded),
+            board,
         })
     }
 

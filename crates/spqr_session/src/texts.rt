@@ -5,8 +5,8 @@
 ghost use Rattle.std.specs.Prelude.{◌≡◌, ◌<◌, ℕ, List, [], length, map, replicate, slice_index, slice_index_or, slice_set, IfOk, OnOk, All};
 ghost use Rattle.multigraph.specs.Graph.{Multigraph, IsGraph, edge_count};
 ghost use Rattle.spqr_session.specs.Trees.{AreBlockTrees};
-ghost use Rattle.spqr_session.specs.Embedded.{view_tree};
-ghost use Rattle.spqr_session.specs.Board.{family_on};
+ghost use Rattle.spqr_session.specs.Embedded.{view_tree, view_entry};
+ghost use Rattle.spqr_session.specs.State.{Family};
 ghost use Rattle.spqr_session.specs.Commands.Gml.{block_numbers, marks};
 ghost use Rattle.spqr_session.specs.Texts.{AreExtended, bytes_of, own_numbers, with_number, with_numbers};
 
@@ -113,8 +113,9 @@ pub(crate) fn present_texts(
 ) -> Result<Vec<Vec<u8>>, AllocError>
     requires { (g : Multigraph) × (edges : List (List ℕ)) × (g.vertex_count ≡ n) × IsGraph g
         × AreBlockTrees g edges (map view_tree blocks.now) }
-    ensures { IfOk result (λ texts. map (λ t. t.items) texts.items
-        ≡ marks n (map view_tree blocks.now) (family_on blocks.now)) }
+    ensures { (family : Family) → family.entries ≡ map view_entry blocks.now
+        → IfOk result (λ texts. map (λ t. t.items) texts.items
+        ≡ marks n (map view_tree blocks.now) family) }
 {
     let mut texts = empty_texts(alloc, n)?;
     for block in blocks {

@@ -1,6 +1,6 @@
 // The history.
 
-ghost use Rattle.std.specs.Prelude.{◌≡◌, ◌+◌, ◌-◌, ◌<◌, ◌≤◌, false, nat_lt, [], length, is_ok, IfOk, MatchBool, MatchResult};
+ghost use Rattle.std.specs.Prelude.{◌≡◌, ◌+◌, ◌-◌, ◌<◌, ◌≤◌, false, nat_lt, [], length, is_ok, IfOk, MatchBool, MatchOption, MatchResult};
 ghost use Rattle.undo_log.specs.History.{HasRoom, Noted, IsStepAt, WentBack, NoneBefore, WentOn, NoneAfter};
 
 use crate::step::Step;
@@ -115,6 +115,29 @@ impl UndoLog {
         ensures { result ≡ nat_lt self.now.cursor (length self.now.steps) }
     {
         self.cursor < self.steps.len()
+    }
+
+    /// The step before the cursor, which `undo` would return.
+    pub fn step_before(&self) -> Option<&Step>
+        ensures { MatchOption result (self.now.cursor ≡ 0)
+            (λ s. IsStepAt self.now.steps (self.now.cursor - 1) s.now) }
+    {
+        if self.cursor == 0 {
+            return None;
+        }
+        Some(self.last_step())
+    }
+
+    /// The step after the cursor, which `redo` would return.
+    pub fn step_after(&self) -> Option<&Step>
+        ensures { MatchOption result (self.now.cursor ≡ length self.now.steps)
+            (λ s. IsStepAt self.now.steps self.now.cursor s.now) }
+    {
+        if self.cursor < self.steps.len() {
+            Some(self.next_step())
+        } else {
+            None
+        }
     }
 
     // Moves the cursor back over a step, and returns whether there was one.

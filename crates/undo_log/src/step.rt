@@ -1,8 +1,8 @@
 // A step of the history.
 
+use crate::shared::SharedNumbers;
 use moves::Move;
-use multigraph::{Numbers, Sequence};
-use std::rc::Rc;
+use multigraph::Sequence;
 
 /// What one command changed.
 #[derive(Debug, Drop)]
@@ -34,7 +34,7 @@ pub type BlockMoves = Sequence<BlockMove>;
 
 /// The edges around a cut vertex in the order that was set there, which several steps share; `None` where it has the first arrangement
 /// for the present blocks.
-pub type Arrangement = Option<Rc<Numbers>>;
+pub type Arrangement = Option<SharedNumbers>;
 
 /// What a cut vertex had before, and after.
 #[derive(Debug, Drop)]

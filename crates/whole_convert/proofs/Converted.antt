@@ -1,19 +1,21 @@
 -- The steps that are found are the moves to the target.
-use Rattle.std.proofs.Common.{◌≡◌, ℕ, ◌<◌, Bool, List, [], ◌++◌, length, slice_index, slice_index_or, sym, ap, ap₂, ◌∙◌, subst}
+use Rattle.std.proofs.Common.{◌≡◌, ℕ, ◌<◌, Bool, List, [], ◌++◌, length, map, slice_index, slice_index_or, sym, ap, ap₂, ◌∙◌, subst}
 use Rattle.multigraph.specs.Part.{GraphPart}
 use Rattle.faces.specs.Euler.{IsPlaneSystem}
 use Rattle.skel_embed.specs.Taken.{IsGiven}
 use Rattle.whole_embed.specs.declared.members.Member.{Member}
 use Rattle.whole_embed.specs.Component.{Component, BlockInPlane, IsComponentInPlane}
-use Rattle.whole_embed.specs.Cuts.{blocks_in, HavePlanes}
+use Rattle.whole_embed.specs.Around.{outer_at}
+use Rattle.whole_embed.specs.Cuts.{CutState, blocks_in, HavePlanes}
 use Rattle.whole_embed.specs.Whole.{AreArranged, IsWholeMember}
 use Rattle.whole_embed.proofs.Assembled.{IsAssembled}
 use Rattle.whole_embed.proofs.Assembly.{assembled}
 use Rattle.whole_convert.specs.Between.{WholeStep, moves_below, is_moved, list_then, arrangements_below, blocks_to, whole_moves_between}
 use Rattle.whole_convert.specs.Leading.{LeadTo}
-use Rattle.whole_convert.specs.Target.{IsMovedTo}
+use Rattle.whole_convert.specs.Target.{IsMovedTo, IsLedWhole}
 use Rattle.whole_convert.specs.Led.{AreLedBelow, is_marked}
-use Rattle.whole_convert.proofs.LedAll.{led-blocks, led-member}
+use Rattle.whole_convert.proofs.LedAll.{led-blocks, led-member, led-component, led-planes}
+use Rattle.whole_convert.proofs.PartOf.{given-one}
 use Rattle.whole_convert.proofs.StepLists.{arrangements-same, then-same}
 use Rattle.whole_convert.proofs.CutStages.{whole_moves_lead}
 
@@ -74,3 +76,18 @@ found-moves k f c part all new first_new second_new lists after q marks last_mar
     (subst (λ (z : Component). (j : ℕ) → j < length z.blocks → is_marked marks (slice_index z.blocks j) ≡ is_moved (blocks_in all) (blocks_in first_new) (slice_index z.blocks j)) ef marked))
     (λ i l. lists-are i l ∙ (ap (λ (z : List Member). list_then k (blocks_in z) (is_marked last_marks) lists i) es ∙ ap (λ (z : List Bool). list_then k (blocks_in new) (is_marked z) lists i) em))
     (e ∙ ap (λ (z : Component). first ++ arrangements_below z (λ i. slice_index_or after i []) q (length z.cuts)) ec)
+
+-- and with the blocks and the lists they are what leads a component there
+pub led-whole : (k : Component) (all new : List Member) (lists q : List (List ℕ)) (entries : List (ℕ × List ℕ)) (steps : List WholeStep) (cuts : CutState) → IsComponentInPlane k (blocks_in all) → HavePlanes k all → IsPlaneSystem k.part.graph q → IsGiven k.part entries q
+    → AreLedBelow k all q new (length k.blocks) → IsMovedTo k (blocks_in all) lists entries steps → cuts.component ≡ k → cuts.lists ≡ map (outer_at k.part q) k.cuts → IsLedWhole k (blocks_in all) lists entries steps new cuts
+led-whole k all new lists q entries steps cuts is have plane given led m component set =
+    let made : IsAssembled k (blocks_in all) = assembled k (blocks_in all) is in
+    let same : q ≡ m.system = given-one k.part entries made.numbered q m.system given m.given in
+    record {
+      moved = m;
+      blocks = led-blocks k all new q is have plane led ∙ ap (blocks_to k (blocks_in all)) same;
+      component = component;
+      set = set ∙ ap (λ (z : List (List ℕ)). map (outer_at k.part z) k.cuts) same;
+      in_plane = subst (λ (z : Component). IsComponentInPlane z (blocks_in new)) (sym component) (led-component k all new q is have plane led);
+      planes = subst (λ (z : Component). HavePlanes z new) (sym component) (led-planes k all new q is have plane led);
+    }

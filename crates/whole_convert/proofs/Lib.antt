@@ -10,4 +10,5 @@ pub mod StepLists
 pub mod Stages
 pub mod BlockStages
 pub mod CutStages
+pub mod TargetLists
 pub mod Converted

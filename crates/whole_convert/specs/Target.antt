@@ -1,5 +1,5 @@
 -- Lists that are a rotation system of a component to which moves lead, and why lists are none.
-use Rattle.std.specs.Prelude.{◌≡◌, ◌≢◌, ℕ, ◌<◌, true, List, length}
+use Rattle.std.specs.Prelude.{◌≡◌, ◌≢◌, ℕ, ◌<◌, true, List, length, map}
 use Rattle.permutations.specs.Members.{is_member}
 use Rattle.rotations.specs.PartLists.{IsFirstBadInPart}
 use Rattle.faces.specs.Euler.{IsPlaneSystem}
@@ -7,9 +7,12 @@ use Rattle.skeletons.specs.Choices.{choice}
 use Rattle.skeletons.specs.Lists.{KeepsChoices}
 use Rattle.skel_embed.specs.Block.{lock_at}
 use Rattle.skel_embed.specs.Taken.{IsGiven, IsNotPlane}
-use Rattle.whole_embed.specs.Component.{Component, BlockInPlane}
+use Rattle.whole_embed.specs.declared.members.Member.{Member}
+use Rattle.whole_embed.specs.Component.{Component, BlockInPlane, IsComponentInPlane}
+use Rattle.whole_embed.specs.Around.{outer_at}
+use Rattle.whole_embed.specs.Cuts.{CutState, blocks_in, HavePlanes}
 use Rattle.whole_embed.specs.Whole.{block_part, IsWholeMember}
-use Rattle.whole_convert.specs.Between.{WholeStep, whole_moves_between}
+use Rattle.whole_convert.specs.Between.{WholeStep, blocks_to, whole_moves_between}
 use Rattle.whole_convert.specs.Leading.{LeadTo}
 use Rattle.whole_convert.specs.declared.faults.WholeFault.{WholeFault}
 use Rattle.whole_convert.specs.declared.faults.WholeFault.TheVariants.{BadRotation, NotGenusZero, Locked, Memory}
@@ -55,3 +58,12 @@ pub record IsMovedTo (k : Component) (block : ℕ → BlockInPlane) (lists : Lis
   pub member : IsWholeMember k block system
   pub moves : steps ≡ whole_moves_between k block lists system
   pub lead : LeadTo k block lists steps system
+
+-- they are, and the blocks and the lists are those of the component with this rotation system
+pub record IsLedWhole (k : Component) (block : ℕ → BlockInPlane) (lists : List (List ℕ)) (entries : List (ℕ × List ℕ)) (steps : List WholeStep) (all : List Member) (cuts : CutState) : Type 0 where
+  pub moved : IsMovedTo k block lists entries steps
+  pub blocks : blocks_in all ≡ blocks_to k block moved.system
+  pub component : cuts.component ≡ k
+  pub set : cuts.lists ≡ map (outer_at k.part moved.system) k.cuts
+  pub in_plane : IsComponentInPlane cuts.component (blocks_in all)
+  pub planes : HavePlanes cuts.component all

@@ -1,9 +1,10 @@
 // The arrangements at the cut vertices of a component after moves of its blocks, and those that are then still to be made.
 
-ghost use Rattle.std.specs.Prelude.{◌≡◌, ℕ, ◌<◌, ◌++◌, true, [], length, slice_index, slice_index_or, IfOk};
+ghost use Rattle.std.specs.Prelude.{◌≡◌, ℕ, ◌<◌, ◌++◌, true, [], length, map, slice_index, slice_index_or, IfOk};
 ghost use Rattle.std.specs.List.{list_any};
 ghost use Rattle.multigraph.specs.Graph.{incident_edges};
-ghost use Rattle.rotations.specs.Rotation.{IsRotationSystem};
+ghost use Rattle.rotations.specs.Rotation.{IsCyclicOrder, IsRotationSystem};
+ghost use Rattle.whole_embed.specs.Around.{edges_around, outer_at};
 ghost use Rattle.whole_embed.specs.Component.{IsComponentInPlane};
 ghost use Rattle.whole_embed.specs.Cuts.{blocks_in, HavePlanes};
 ghost use Rattle.whole_convert.specs.Between.{as_steps, list_then, arrangements_below};
@@ -14,7 +15,7 @@ use crate::steps::WholeMove;
 use multigraph::Numbers;
 use rotations::Rotation;
 use std::alloc::{AllocError, Global};
-use whole_embed::{Cuts, Frame, Member};
+use whole_embed::{Cuts, Frame, Member, set};
 
 // Whether a block with an edge at vertex i of the component is marked.
 fn is_marked_at(frame: &Frame, marks: &[bool], i: u32) -> bool
@@ -78,6 +79,26 @@ pub(crate) fn add_arrangements(
         if order.as_slice() != after.list(i) {
             list.push(WholeMove::Regroup(v, Numbers::of(order)))?;
         }
+    }
+    Ok(())
+}
+
+// Sets the list that the rotation system has around each cut vertex.
+pub(crate) fn arrange_all(alloc: Global, cuts: &mut Cuts, q: &Rotation) -> Result<(), AllocError>
+    requires system { IsRotationSystem cuts.old.component.part.graph q.now }
+    requires orders { (i : ℕ) → i < length cuts.old.component.cuts
+        → IsCyclicOrder (edges_around cuts.old.component (slice_index cuts.old.component.cuts i))
+        (outer_at cuts.old.component.part q.now (slice_index cuts.old.component.cuts i)) }
+    ensures component { IfOk result (λ _. cuts.new.component ≡ cuts.old.component) }
+    ensures lists { IfOk result (λ _. cuts.new.lists
+        ≡ map (outer_at cuts.old.component.part q.now) cuts.old.component.cuts) }
+{
+    cuts.keeps();
+    for i in 0..cuts.count() {
+        let frame = cuts.frame();
+        let v = frame.cuts()[i];
+        let order = order_around(alloc, frame.part(), q, v)?;
+        set(cuts, v, &order);
     }
     Ok(())
 }

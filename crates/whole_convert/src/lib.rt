@@ -35,7 +35,7 @@ mod orders;
 mod steps;
 mod target;
 
-pub use converting::whole_moves;
+pub use converting::{Led, lead_whole, whole_moves};
 pub use faults::WholeFault;
 pub use laws::{whole_moves_lead, whole_to_parts};
 pub use steps::WholeMove;

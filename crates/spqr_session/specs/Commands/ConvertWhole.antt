@@ -6,7 +6,7 @@ use Rattle.skel_embed.specs.Taken.{IsGiven, IsNotPlane}
 use Rattle.whole_embed.specs.Whole.{IsWholeMember}
 use Rattle.whole_convert.specs.Between.{WholeStep, move_block, arrange, whole_moves_between}
 use Rattle.whole_convert.specs.Target.{IsLockedAt}
-use Rattle.spqr_script.specs.Answers.Moves.{count_of_moves_text}
+use Rattle.spqr_script.specs.Answers.Moves.{move_count_text}
 use Rattle.spqr_script.specs.Answers.Whole.{block_move_text, regroup_text}
 use Rattle.spqr_session.specs.Trees.{tree_at}
 use Rattle.spqr_session.specs.Setting.{Setting}
@@ -24,7 +24,7 @@ step_text setting (arrange v edges) = regroup_text v edges
 
 -- the line of their number, and the lines of the steps
 abbrev pub steps_text : Setting → List WholeStep → List ℕ
-steps_text setting steps = count_of_moves_text (length steps) ++ concat (map (step_text setting) steps)
+steps_text setting steps = move_count_text (length steps) ++ concat (map (step_text setting) steps)
 
 -- code 5: a block of the component is not planar; 6 and 7, of a component: the lists are not a rotation system, and the number is the least
 -- at which this shows, or they are one with these numbers, which is not plane; 12: at a locked node there is another choice; 14: there is no

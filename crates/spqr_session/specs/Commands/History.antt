@@ -5,10 +5,10 @@ use Rattle.spqr_session.specs.State.{Family, State}
 use Rattle.spqr_session.specs.Codes.{Ladder, Applies, Carries}
 use Rattle.spqr_session.specs.declared.code.Code.TheVariants.{NothingToUndo, NothingToRedo}
 
--- whether there is no family
-abbrev pub is_none : List Family → Bool
+-- whether the list has none
+abbrev pub is_none : {X : Type 0} → List X → Bool
 is_none [] = true
-is_none (family ∷ others) = false
+is_none (x ∷ xs) = false
 
 -- code 8: there is no earlier family
 abbrev pub undo_ladder : State → Ladder

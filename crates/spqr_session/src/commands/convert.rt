@@ -2,7 +2,7 @@
 ghost use Rattle.std.specs.Prelude.{◌≡◌, IfOk, OnErr};
 ghost use Rattle.spqr_session.specs.Scene.{setting_on};
 ghost use Rattle.spqr_session.specs.declared.scene.Scene.{Scene};
-ghost use Rattle.spqr_session.specs.Board.{board_state, IsCarried};
+ghost use Rattle.spqr_session.specs.Board.{state_on, BelongTogether, IsCarried};
 ghost use Rattle.spqr_session.specs.Planned.{FitsBlock, MayStand, TellsMoves, IsConverted};
 ghost use Rattle.spqr_session.specs.Commands.Convert.{ConvertToStep};
 ghost use Rattle.spqr_session.specs.Products.{ConvertByProduct};
@@ -76,8 +76,8 @@ pub(crate) fn carry_convert_rank(
     b: u32,
     r: u128,
 ) -> Result<Vec<u8>, AllocError>
-    ensures step { (scene : Scene) → IfOk result (λ text. ConvertByProduct (setting_on scene board.old.views) b r
-        (board_state board.old) text.items (board_state board.new)) }
+    ensures step { (scene : Scene) → BelongTogether scene board.old → IfOk result (λ text. ConvertByProduct (setting_on scene board.old.views) b r
+        (state_on scene board.old.views board.old) text.items (state_on scene board.old.views board.new)) }
     ensures setting { IsCarried board.old.views board.new.views }
     ensures memory { OnErr result (board.new ≡ board.old) }
 {
@@ -93,8 +93,8 @@ pub(crate) fn carry_convert_to(
     b: u32,
     lists: &Lists,
 ) -> Result<Vec<u8>, AllocError>
-    ensures step { (scene : Scene) → IfOk result (λ text. ConvertToStep (setting_on scene board.old.views) b lists.now
-        (board_state board.old) text.items (board_state board.new)) }
+    ensures step { (scene : Scene) → BelongTogether scene board.old → IfOk result (λ text. ConvertToStep (setting_on scene board.old.views) b lists.now
+        (state_on scene board.old.views board.old) text.items (state_on scene board.old.views board.new)) }
     ensures setting { IsCarried board.old.views board.new.views }
     ensures memory { OnErr result (board.new ≡ board.old) }
 {

@@ -5,8 +5,7 @@ ghost use Rattle.spqr_script.specs.Answers.Gml.{document_text};
 ghost use Rattle.spqr_session.specs.Trees.{AreBlockTrees};
 ghost use Rattle.spqr_session.specs.Setting.{Setting};
 ghost use Rattle.spqr_session.specs.State.{State};
-ghost use Rattle.spqr_session.specs.Embedded.{view_tree};
-ghost use Rattle.spqr_session.specs.Board.{family_on};
+ghost use Rattle.spqr_session.specs.Embedded.{view_tree, view_entry};
 ghost use Rattle.spqr_session.specs.Commands.Gml.{GmlStep};
 
 use crate::embedded::EmbeddedBlock;
@@ -46,7 +45,7 @@ pub(crate) fn carry_gml(
 ) -> Result<Vec<u8>, AllocError>
     requires { (edges : List (List ℕ)) × AreBlockTrees graph.now edges (map view_tree blocks.now) }
     ensures { (setting : Setting) (s : State) → setting.document ≡ doc.now → setting.named.graph ≡ graph.now
-        → setting.trees ≡ map view_tree blocks.now → s.present ≡ family_on blocks.now
+        → setting.trees ≡ map view_tree blocks.now → s.present.entries ≡ map view_entry blocks.now
         → IfOk result (λ text. GmlStep setting s text.items s) }
 {
     let texts = present_texts(alloc, graph.vertex_count(), blocks)?;

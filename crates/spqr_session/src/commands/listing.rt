@@ -47,7 +47,7 @@ fn push_members(
 }
 
 // The line after the members: whether one more follows.
-fn last_line(alloc: Global, more: bool) -> Result<Vec<u8>, AllocError>
+pub(super) fn last_line(alloc: Global, more: bool) -> Result<Vec<u8>, AllocError>
     ensures { IfOk result (λ line. line.items ≡ (if more then more_text else end_text)) }
 {
     if more {

@@ -1,12 +1,12 @@
 // `lock B K` and `unlock B K`: a node of a block is locked, or its lock is taken away.
 ghost use Rattle.std.specs.Prelude.{◌≡◌, ◌<◌, map, IfOk, OnErr};
 ghost use Rattle.spqr_session.specs.State.{State};
-ghost use Rattle.spqr_session.specs.Embedded.{view_tree};
+ghost use Rattle.spqr_session.specs.Embedded.{view_tree, view_entry};
 ghost use Rattle.spqr_session.specs.Scene.{setting_on};
 ghost use Rattle.spqr_session.specs.declared.scene.Scene.{Scene};
 ghost use Rattle.spqr_session.specs.BlockCodes.{node_codes, node_ladder};
 ghost use Rattle.pair_split.specs.Kinds.{has_choices};
-ghost use Rattle.spqr_session.specs.Board.{family_on, board_state, IsCarried};
+ghost use Rattle.spqr_session.specs.Board.{state_on, BelongTogether, IsCarried};
 ghost use Rattle.spqr_session.specs.Planned.{IsVerdict};
 ghost use Rattle.spqr_session.specs.Commands.Lock.{LockStep};
 
@@ -46,7 +46,7 @@ fn code_of_block(block: &EmbeddedBlock, k: u32) -> Option<Code>
 
 // The code that applies to a lock of node k of block b.
 fn code_of(blocks: &[EmbeddedBlock], b: u32, k: u32) -> Option<Code>
-    ensures { (s : State) → s.present ≡ family_on blocks.now
+    ensures { (s : State) → s.present.entries ≡ map view_entry blocks.now
         → IsVerdict (node_ladder has_choices (map view_tree blocks.now) b k s) result }
 {
     match blocks.get(b as usize) {
@@ -64,8 +64,8 @@ pub(crate) fn carry_lock(
     k: u32,
     on: bool,
 ) -> Result<Vec<u8>, AllocError>
-    ensures step { (scene : Scene) → IfOk result (λ text.
-        LockStep on (setting_on scene board.old.views) b k (board_state board.old) text.items (board_state board.new)) }
+    ensures step { (scene : Scene) → BelongTogether scene board.old → IfOk result (λ text.
+        LockStep on (setting_on scene board.old.views) b k (state_on scene board.old.views board.old) text.items (state_on scene board.old.views board.new)) }
     ensures setting { IsCarried board.old.views board.new.views }
     ensures memory { OnErr result (board.new ≡ board.old) }
 {
@@ -73,7 +73,7 @@ pub(crate) fn carry_lock(
         Some(code) => code.line(alloc),
         None => {
             let text = ok_line(alloc)?;
-            board.set_lock(b, k, on)?;
+            board.set_lock(alloc, b, k, on)?;
             Ok(text)
         }
     }

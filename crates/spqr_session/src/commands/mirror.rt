@@ -2,11 +2,11 @@
 ghost use Rattle.std.specs.Prelude.{◌≡◌, map, IfOk, OnErr, MatchOption};
 ghost use Rattle.embed_moves.specs.Made.{NoneHeld, IsLeastHeld};
 ghost use Rattle.spqr_session.specs.State.{State};
-ghost use Rattle.spqr_session.specs.Embedded.{view_tree};
+ghost use Rattle.spqr_session.specs.Embedded.{view_tree, view_entry};
 ghost use Rattle.spqr_session.specs.Scene.{setting_on};
 ghost use Rattle.spqr_session.specs.declared.scene.Scene.{Scene};
 ghost use Rattle.spqr_session.specs.BlockCodes.{entry_codes, read_ladder};
-ghost use Rattle.spqr_session.specs.Board.{family_on, board_state, IsCarried};
+ghost use Rattle.spqr_session.specs.Board.{state_on, BelongTogether, IsCarried};
 ghost use Rattle.spqr_session.specs.Planned.{IsVerdict, IsMirrorVerdict};
 ghost use Rattle.spqr_session.specs.Commands.Mirror.{mirror_codes, MirrorStep};
 
@@ -52,7 +52,7 @@ fn code_of_block(block: &EmbeddedBlock) -> Option<Code>
 
 // The code that applies to the mirror image of block b.
 fn code_of(blocks: &[EmbeddedBlock], b: u32) -> Option<Code>
-    ensures { (s : State) → s.present ≡ family_on blocks.now
+    ensures { (s : State) → s.present.entries ≡ map view_entry blocks.now
         → IsVerdict (read_ladder mirror_codes (map view_tree blocks.now) b s) result }
 {
     match blocks.get(b as usize) {
@@ -63,8 +63,8 @@ fn code_of(blocks: &[EmbeddedBlock], b: u32) -> Option<Code>
 
 /// Carries out `mirror`: every rotation of the block is reversed, or code 1, 5 or 12. If memory runs out, the board stays as it was.
 pub(crate) fn carry_mirror(alloc: Global, board: &mut Board, b: u32) -> Result<Vec<u8>, AllocError>
-    ensures step { (scene : Scene) → IfOk result (λ text.
-        MirrorStep (setting_on scene board.old.views) b (board_state board.old) text.items (board_state board.new)) }
+    ensures step { (scene : Scene) → BelongTogether scene board.old → IfOk result (λ text.
+        MirrorStep (setting_on scene board.old.views) b (state_on scene board.old.views board.old) text.items (state_on scene board.old.views board.new)) }
     ensures setting { IsCarried board.old.views board.new.views }
     ensures memory { OnErr result (board.new ≡ board.old) }
 {

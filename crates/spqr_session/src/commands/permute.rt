@@ -7,11 +7,11 @@ ghost use Rattle.skeletons.specs.Items.{item_key};
 ghost use Rattle.skeletons.specs.Moves.{permute};
 ghost use Rattle.skel_embed.specs.Values.{as_move};
 ghost use Rattle.spqr_session.specs.State.{State};
-ghost use Rattle.spqr_session.specs.Embedded.{view_tree, view_at};
+ghost use Rattle.spqr_session.specs.Embedded.{view_tree, view_entry, view_at};
 ghost use Rattle.spqr_session.specs.Scene.{setting_on};
 ghost use Rattle.spqr_session.specs.declared.scene.Scene.{Scene};
 ghost use Rattle.spqr_session.specs.BlockCodes.{kind_of};
-ghost use Rattle.spqr_session.specs.Board.{family_on, board_state, IsCarried};
+ghost use Rattle.spqr_session.specs.Board.{state_on, BelongTogether, IsCarried};
 ghost use Rattle.spqr_session.specs.Planned.{IsVerdict, AreArranged, IsPermuteVerdict};
 ghost use Rattle.spqr_session.specs.Commands.Permute.{inner_edges, permute_ladder, PermuteStep};
 
@@ -124,7 +124,7 @@ fn code_of(
     k: u32,
     keys: &[u32],
 ) -> Result<Option<Code>, AllocError>
-    ensures verdict { (s : State) → s.present ≡ family_on blocks.now
+    ensures verdict { (s : State) → s.present.entries ≡ map view_entry blocks.now
         → IfOk result (IsVerdict (permute_ladder (map view_tree blocks.now) b k keys.now s)) }
     ensures arranged { IfOk result (λ code. code ≡ None → AreArranged k keys.now (view_at blocks.now b).tree) }
 {
@@ -151,8 +151,8 @@ pub(crate) fn carry_permute(
     k: u32,
     keys: &[u32],
 ) -> Result<Vec<u8>, AllocError>
-    ensures step { (scene : Scene) → IfOk result (λ text. PermuteStep (setting_on scene board.old.views) b k keys.now
-        (board_state board.old) text.items (board_state board.new)) }
+    ensures step { (scene : Scene) → BelongTogether scene board.old → IfOk result (λ text. PermuteStep (setting_on scene board.old.views) b k keys.now
+        (state_on scene board.old.views board.old) text.items (state_on scene board.old.views board.new)) }
     ensures setting { IsCarried board.old.views board.new.views }
     ensures memory { OnErr result (board.new ≡ board.old) }
 {

@@ -1,10 +1,10 @@
 // `take B ROT`: lists of edges become the rotation system of a block.
 ghost use Rattle.std.specs.Prelude.{◌≡◌, map, IfOk, OnErr};
 ghost use Rattle.spqr_session.specs.State.{State};
-ghost use Rattle.spqr_session.specs.Embedded.{view_tree};
+ghost use Rattle.spqr_session.specs.Embedded.{view_tree, view_entry};
 ghost use Rattle.spqr_session.specs.Scene.{setting_on};
 ghost use Rattle.spqr_session.specs.declared.scene.Scene.{Scene};
-ghost use Rattle.spqr_session.specs.Board.{family_on, board_state, IsCarried};
+ghost use Rattle.spqr_session.specs.Board.{state_on, BelongTogether, IsCarried};
 ghost use Rattle.spqr_session.specs.Planned.{IsLowestPlan, IsLowestPlanAt, EntryTakenCodes, IsTakePlan};
 ghost use Rattle.spqr_session.specs.Commands.Take.{TakeApplies, IsTaken, TakeStep};
 
@@ -61,7 +61,7 @@ pub(crate) fn plan_take(
     b: u32,
     lists: &Lists,
 ) -> Result<Planned, AllocError>
-    ensures { (s : State) → s.present ≡ family_on blocks.now
+    ensures { (s : State) → s.present.entries ≡ map view_entry blocks.now
         → IfOk result (IsLowestPlanAt (TakeApplies (map view_tree blocks.now) b lists.now s) (IsTaken lists.now) blocks.now b) }
 {
     match blocks.get(b as usize) {
@@ -78,8 +78,8 @@ pub(crate) fn carry_take(
     b: u32,
     lists: &Lists,
 ) -> Result<Vec<u8>, AllocError>
-    ensures step { (scene : Scene) → IfOk result (λ text. TakeStep (setting_on scene board.old.views) b lists.now
-        (board_state board.old) text.items (board_state board.new)) }
+    ensures step { (scene : Scene) → BelongTogether scene board.old → IfOk result (λ text. TakeStep (setting_on scene board.old.views) b lists.now
+        (state_on scene board.old.views board.old) text.items (state_on scene board.old.views board.new)) }
     ensures setting { IsCarried board.old.views board.new.views }
     ensures memory { OnErr result (board.new ≡ board.old) }
 {

@@ -1,13 +1,13 @@
 // `first B`, `goto B R` and `next B`: along the list of a block.
 ghost use Rattle.std.specs.Prelude.{◌≡◌, ◌<◌, ◌^◌, map, IfOk, OnErr};
 ghost use Rattle.spqr_session.specs.State.{State};
-ghost use Rattle.spqr_session.specs.Embedded.{view_tree};
+ghost use Rattle.spqr_session.specs.Embedded.{view_tree, view_entry};
 ghost use Rattle.spqr_session.specs.Scene.{setting_on};
 ghost use Rattle.spqr_session.specs.declared.scene.Scene.{Scene};
 ghost use Rattle.spqr_session.specs.Members.{StandsAt};
 ghost use Rattle.spqr_session.specs.Products.{product_rank_codes, GotoByProduct};
 ghost use Rattle.spqr_session.specs.BlockCodes.{planar_codes, block_ladder, entry_codes, read_ladder};
-ghost use Rattle.spqr_session.specs.Board.{family_on, board_state, IsCarried};
+ghost use Rattle.spqr_session.specs.Board.{state_on, BelongTogether, IsCarried};
 ghost use Rattle.spqr_session.specs.Planned.{IsPlan, IsPlanAt, IsFirstPlan, IsRankPlan, IsNextPlan, IsNextPlanAt, IsStepPlan};
 ghost use Rattle.spqr_session.specs.Commands.Walk.{FirstStep, NextStep};
 
@@ -42,7 +42,7 @@ fn first_of_block(alloc: Global, block: &EmbeddedBlock) -> Result<Planned, Alloc
 
 // The plan for block `b`.
 fn plan_first(alloc: Global, blocks: &[EmbeddedBlock], b: u32) -> Result<Planned, AllocError>
-    ensures { (s : State) → s.present ≡ family_on blocks.now
+    ensures { (s : State) → s.present.entries ≡ map view_entry blocks.now
         → IfOk result (IsPlanAt (block_ladder (map view_tree blocks.now) b s) (StandsAt 0) blocks.now b) }
 {
     match blocks.get(b as usize) {
@@ -53,8 +53,8 @@ fn plan_first(alloc: Global, blocks: &[EmbeddedBlock], b: u32) -> Result<Planned
 
 /// Carries out `first`: to the first member of the block's list, or code 1 or 5. If memory runs out, the board stays as it was.
 pub(crate) fn carry_first(alloc: Global, board: &mut Board, b: u32) -> Result<Vec<u8>, AllocError>
-    ensures step { (scene : Scene) → IfOk result (λ text.
-        FirstStep (setting_on scene board.old.views) b (board_state board.old) text.items (board_state board.new)) }
+    ensures step { (scene : Scene) → BelongTogether scene board.old → IfOk result (λ text.
+        FirstStep (setting_on scene board.old.views) b (state_on scene board.old.views board.old) text.items (state_on scene board.old.views board.new)) }
     ensures setting { IsCarried board.old.views board.new.views }
     ensures memory { OnErr result (board.new ≡ board.old) }
 {
@@ -119,7 +119,7 @@ pub(crate) fn plan_rank(
     b: u32,
     r: u128,
 ) -> Result<Planned, AllocError>
-    ensures { (s : State) → s.present ≡ family_on blocks.now
+    ensures { (s : State) → s.present.entries ≡ map view_entry blocks.now
         → IfOk result (IsPlanAt (read_ladder (product_rank_codes r) (map view_tree blocks.now) b s) (StandsAt r) blocks.now b) }
 {
     match blocks.get(b as usize) {
@@ -136,8 +136,8 @@ pub(crate) fn carry_goto(
     b: u32,
     r: u128,
 ) -> Result<Vec<u8>, AllocError>
-    ensures step { (scene : Scene) → IfOk result (λ text.
-        GotoByProduct (setting_on scene board.old.views) b r (board_state board.old) text.items (board_state board.new)) }
+    ensures step { (scene : Scene) → BelongTogether scene board.old → IfOk result (λ text.
+        GotoByProduct (setting_on scene board.old.views) b r (state_on scene board.old.views board.old) text.items (state_on scene board.old.views board.new)) }
     ensures setting { IsCarried board.old.views board.new.views }
     ensures memory { OnErr result (board.new ≡ board.old) }
 {
@@ -171,7 +171,7 @@ fn next_of_block(alloc: Global, block: &EmbeddedBlock) -> Result<Planned, AllocE
 
 // The plan for block `b`.
 fn plan_next(alloc: Global, blocks: &[EmbeddedBlock], b: u32) -> Result<Planned, AllocError>
-    ensures { (s : State) → s.present ≡ family_on blocks.now
+    ensures { (s : State) → s.present.entries ≡ map view_entry blocks.now
         → IfOk result (IsNextPlanAt (block_ladder (map view_tree blocks.now) b s) blocks.now b) }
 {
     match blocks.get(b as usize) {
@@ -183,8 +183,8 @@ fn plan_next(alloc: Global, blocks: &[EmbeddedBlock], b: u32) -> Result<Planned,
 /// Carries out `next`: to the member after the present one, or `end` at the last, where nothing changes, or code 1 or 5.
 /// If memory runs out, the board stays as it was.
 pub(crate) fn carry_next(alloc: Global, board: &mut Board, b: u32) -> Result<Vec<u8>, AllocError>
-    ensures step { (scene : Scene) → IfOk result (λ text.
-        NextStep (setting_on scene board.old.views) b (board_state board.old) text.items (board_state board.new)) }
+    ensures step { (scene : Scene) → BelongTogether scene board.old → IfOk result (λ text.
+        NextStep (setting_on scene board.old.views) b (state_on scene board.old.views board.old) text.items (state_on scene board.old.views board.new)) }
     ensures setting { IsCarried board.old.views board.new.views }
     ensures memory { OnErr result (board.new ≡ board.old) }
 {

@@ -1,12 +1,12 @@
 // A block's embedding changed. Memory is taken only for lists.
-ghost use Rattle.std.specs.Prelude.{◌≡◌, ◌<◌, length, Some, All, IfOk, IfErr};
+ghost use Rattle.std.specs.Prelude.{◌≡◌, ◌<◌, [], ◌∷◌, length, Some, IfOk, IfErr};
 ghost use Rattle.skel_embed.specs.Block.{IsBlockState};
 ghost use Rattle.skel_embed.specs.Taken.{IsGiven, IsTakeRefusal};
 ghost use Rattle.spqr_session.specs.Starting.{IsBlockTaken, IsBlockRefusal};
 ghost use Rattle.spqr_session.specs.State.{Embedding};
 ghost use Rattle.embed_moves.specs.Made.{Fits};
-ghost use Rattle.spqr_session.specs.Moved.{moved, all_moved};
-ghost use Rattle.skel_embed.specs.Values.{as_move, as_moves};
+ghost use Rattle.spqr_session.specs.Moved.{moved};
+ghost use Rattle.skel_embed.specs.Values.{as_move};
 ghost use Rattle.spqr_session.specs.History.{entry_moved, entry_locked, entry_mirrored};
 ghost use Rattle.spqr_session.specs.Embedded.{entry_lock};
 
@@ -14,7 +14,7 @@ use super::EmbeddedBlock;
 use embed_moves::carry_out;
 use multigraph::Part;
 use rotations::Lists;
-use skel_embed::{Move, MoveList, Outcome, PlaneBlock, TakeFault};
+use skel_embed::{Move, Outcome, PlaneBlock, TakeFault};
 use std::alloc::Global;
 
 impl EmbeddedBlock {
@@ -39,16 +39,16 @@ impl EmbeddedBlock {
         }
     }
 
-    /// Makes moves of a planar block.
-    pub(crate) fn carry(&mut self, moves: &MoveList)
-        requires { All (Fits self.old.tree.nodes) (as_moves moves.now) }
+    /// Makes a move of a planar block.
+    pub(crate) fn carry(&mut self, one: &Move)
+        requires { Fits self.old.tree.nodes (as_move one.now) }
         ensures { self.new ≡ record self.old {
           entry = entry_moved self.old.tree.nodes
-              (as_moves moves.now) self.old.entry;
+              (as_move one.now ∷ []) self.old.entry;
         } }
     {
         if let Outcome::Plane(plane) = &mut self.outcome {
-            carry_all(plane, moves);
+            carry_one(plane, one);
         }
     }
 
@@ -86,20 +86,6 @@ impl EmbeddedBlock {
     {
         plane.belongs();
         self.outcome = Outcome::Plane(plane);
-    }
-}
-
-// Makes moves, one after the other.
-fn carry_all(plane: &mut PlaneBlock, moves: &MoveList)
-    requires { All (Fits plane.old.tree) (as_moves moves.now) }
-    ensures { plane.new ≡ record plane.old {
-      rotation = all_moved plane.old.tree
-          (as_moves moves.now) plane.old.rotation;
-      choices = plane.new.choices;
-    } }
-{
-    for one in moves.as_slice() {
-        carry_one(plane, one);
     }
 }
 

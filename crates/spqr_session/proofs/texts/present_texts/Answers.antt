@@ -1,14 +1,13 @@
-use Rattle.std.proofs.Common.{◌≡◌, ◌<◌, ℕ, length, map, Option, All, sym, ap, ◌∙◌, subst, arith}
+use Rattle.std.proofs.Common.{◌≡◌, ◌<◌, ℕ, List, [], length, map, Option, All, sym, ap, ◌∙◌, subst, arith}
 use Rattle.std.proofs.lemmas.List.{length-map}
 use Rattle.spqr_session.specs.Trees.{BlockTree, tree_at}
 use Rattle.spqr_session.specs.State.{Embedding}
 use Rattle.spqr_session.specs.Embedded.{BlockView, view_tree, view_at}
-use Rattle.spqr_session.specs.Board.{family_on}
-use Rattle.spqr_session.specs.Commands.Gml.{block_numbers}
+use Rattle.spqr_session.specs.Commands.Gml.{block_numbers, marks}
 use Rattle.spqr_session.specs.Texts.{AreExtended, bytes_of}
 use Rattle.spqr_session.proofs.BlockTrees.{view-at}
 use Rattle.spqr_session.proofs.NumberTexts.{AreTexts, bytes-long, tree-within, texts-more, all-texts}
-use Rattle.spqr_session.proofs.Views.{trees-at, entries-at}
+use Rattle.spqr_session.proofs.Views.{seen_family, trees-at, entries-at}
 use Rattle.spqr_session.proofs.texts.present_texts.Goals as goal
 
 -- the vertices of a block are vertices of the graph
@@ -28,7 +27,7 @@ pub loop-block-preserved : goal.loop-block-preserved
 loop-block-preserved c =
     let views = c.args.blocks.now in
     let trees = map view_tree views in
-    let family = family_on views in
+    let family = seen_family views in
     let k = c.loop-block.block-index in
     let v = c.block-item.result in
     let old = bytes_of c.loop-block.texts.items in
@@ -40,8 +39,9 @@ loop-block-preserved c =
 
 -- all of them
 pub returns : goal.returns
-returns c =
+returns c = λ family e.
     let views = c.args.blocks.now in
     let trees = map view_tree views in
     let all : c.loop-block.block-index ≡ length trees = omega (arith, c.loop-block-test.false, c.loop-block.auto.block-index-end, length-map views view_tree) in
-    all-texts c.args.n trees (family_on views) (bytes_of c.loop-block.texts.items) (subst (λ (k : ℕ). AreTexts c.args.n trees (family_on views) k (bytes_of c.loop-block.texts.items)) all c.loop-block.invariant)
+    all-texts c.args.n trees (seen_family views) (bytes_of c.loop-block.texts.items) (subst (λ (k : ℕ). AreTexts c.args.n trees (seen_family views) k (bytes_of c.loop-block.texts.items)) all c.loop-block.invariant)
+    ∙ ap (λ (es : List (Option Embedding)). marks c.args.n trees (record { entries = es; arrangements = [] })) (sym e)

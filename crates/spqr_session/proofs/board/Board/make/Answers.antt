@@ -1,50 +1,46 @@
-use Rattle.std.proofs.Common.{List, Option, refl, ap, sym, ◌∙◌, subst, slice_set}
+use Rattle.std.proofs.Common.{List, sym, subst}
 use Rattle.skel_embed.specs.Values.{as_moves}
-use Rattle.undo_log.specs.declared.step.Step.TheVariants.{Moves}
 use Rattle.spqr_session.specs.State.{Embedding}
-use Rattle.spqr_session.specs.Moved.{all_moved, LeadBack}
-use Rattle.spqr_session.specs.History.{entry_moved}
+use Rattle.spqr_session.specs.Moved.{all_moved}
 use Rattle.spqr_session.specs.Embedded.{BlockView, view_at, IsInPlane}
-use Rattle.spqr_session.specs.Board.{BoardView, board_view, StandsAt, CanMake, AreMade}
-use Rattle.spqr_session.proofs.BlockTrees.{view-at}
-use Rattle.spqr_session.proofs.Boards.{noted-added}
-use Rattle.spqr_session.proofs.BoardSteps.{made-right, made-done}
+use Rattle.spqr_session.specs.Board.{BoardView, StandsAt, CanMake, LeadsTo, GoesTo, kept_changed, AreMade}
+use Rattle.spqr_session.proofs.Moved.{moves-keep}
+use Rattle.spqr_session.proofs.Steps.{ok-map}
 use Rattle.spqr_session.proofs.WaysBack.{all-lead}
 use Rattle.spqr_session.proofs.board.Board.make.Goals as goal
 
-pub invariant_of-self-2 : goal.invariant_of-self-2
-invariant_of-self-2 c =
-    let views = c.self.inside.blocks.items in
-    let log = c.self.inside.log in
+pub carry-requires : goal.carry-requires
+carry-requires c =
+    let s = c.self.inside in
+    let views = s.blocks.items in
+    let b = c.args.b in
     let moves = as_moves c.args.forth in
-    let can = subst (λ (v : BoardView). CanMake v.views c.args.b moves) (sym c.self.view_is) c.requires in
-    let w = c.index_mut.result.now in
-    let found = view-at views c.args.b w can.stands.within c.index_mut.ensures.value in
-    let nodes = (view_at views c.args.b).tree.nodes in
-    let is = c.carry.ensures ∙ ap (λ (o : Option Embedding). record { tree = w.tree; certificate = w.certificate; entry = o }) (ap (λ (v : BlockView). entry_moved v.tree.nodes moves v.entry) found ∙ ap (entry_moved nodes moves) can.stands.entry) in
-    let back = subst (λ (l : List BlockView). (e : Embedding) → StandsAt l c.args.b e → LeadBack (view_at l c.args.b).tree.nodes e.rotation moves (as_moves c.in_ok-back.back)) c.deref.ensures.value c.in_ok-back.ensures.back in
-    made-right views c.args.b can.entry c.carry.new.self w log c.note.new.self c.args.forth c.in_ok-back.back (all_moved nodes moves can.entry.rotation) c.self.invariant can.stands c.index_mut.ensures.value is can.are.fit refl (back can.entry can.stands)
-    (noted-added log c.reserve.new.self c.note.new.self (Moves c.args.b c.args.forth c.in_ok-back.back) c.reserve.ensures.steps c.reserve.ensures.cursor c.note.ensures)
+    let step = c.in_ok-step.step in
+    let can = subst (λ (v : BoardView). CanMake v.views b moves) (sym c.self.view_is) c.requires in
+    let e = can.entry in
+    let new : Embedding = record { rotation = all_moved (view_at views b).tree.nodes moves e.rotation; locks = e.locks } in
+    let made = subst (λ (l : List BlockView). (x : Embedding) → StandsAt l b x → LeadsTo l s.lists (kept_changed l s.lists b (record { rotation = all_moved (view_at l b).tree.nodes moves x.rotation; locks = x.locks })) step) c.deref.ensures.value c.in_ok-step.ensures.leads in
+    (kept_changed views s.lists b new, subst (λ (v : BoardView). LeadsTo v.views v.lists (kept_changed views s.lists b new) step) c.self.view_is (made e can.stands))
 
 pub returns-clause-done : goal.returns-clause-done
 returns-clause-done c =
-    let views = c.self.inside.blocks.items in
-    let log = c.self.inside.log in
+    let s = c.self.inside in
+    let views = s.blocks.items in
+    let b = c.args.b in
     let moves = as_moves c.args.forth in
-    let can = subst (λ (v : BoardView). CanMake v.views c.args.b moves) (sym c.self.view_is) c.requires in
-    let w = c.index_mut.result.now in
-    let found = view-at views c.args.b w can.stands.within c.index_mut.ensures.value in
-    let tree = (view_at views c.args.b).tree in
-    let nodes = tree.nodes in
-    let is = c.carry.ensures ∙ ap (λ (o : Option Embedding). record { tree = w.tree; certificate = w.certificate; entry = o }) (ap (λ (v : BlockView). entry_moved v.tree.nodes moves v.entry) found ∙ ap (entry_moved nodes moves) can.stands.entry) in
-    let back = subst (λ (l : List BlockView). (e : Embedding) → StandsAt l c.args.b e → LeadBack (view_at l c.args.b).tree.nodes e.rotation moves (as_moves c.in_ok-back.back)) c.deref.ensures.value c.in_ok-back.ensures.back in
-    let right = subst (λ (l : List BlockView). IsInPlane (view_at l c.args.b)) c.deref.ensures.value c.in_ok-back.ensures.plane can.entry can.stands.entry in
-    let done = made-done views c.args.b can.entry c.carry.new.self w log c.note.new.self c.args.forth c.in_ok-back.back (all_moved nodes moves can.entry.rotation) c.self.invariant can.stands c.index_mut.ensures.value is can.are.fit refl (back can.entry can.stands)
-    (noted-added log c.reserve.new.self c.note.new.self (Moves c.args.b c.args.forth c.in_ok-back.back) c.reserve.ensures.steps c.reserve.ensures.cursor c.note.ensures) in
-    subst (λ (board : BoardView). AreMade board c.args.b moves (board_view (slice_set views c.args.b c.carry.new.self) c.note.new.self)) c.self.view_is (record {
-      old = can.entry;
+    let step = c.in_ok-step.step in
+    let can = subst (λ (v : BoardView). CanMake v.views b moves) (sym c.self.view_is) c.requires in
+    let e = can.entry in
+    let new : Embedding = record { rotation = all_moved (view_at views b).tree.nodes moves e.rotation; locks = e.locks } in
+    let made = subst (λ (l : List BlockView). (x : Embedding) → StandsAt l b x → LeadsTo l s.lists (kept_changed l s.lists b (record { rotation = all_moved (view_at l b).tree.nodes moves x.rotation; locks = x.locks })) step) c.deref.ensures.value c.in_ok-step.ensures.leads in
+    let leads = subst (λ (v : BoardView). LeadsTo v.views v.lists (kept_changed views s.lists b new) step) c.self.view_is (made e can.stands) in
+    let right = subst (λ (l : List BlockView). IsInPlane (view_at l b)) c.deref.ensures.value c.in_ok-step.ensures.plane e can.stands.entry in
+    let tree = (view_at views b).tree in
+    ok-map c.carry.result (λ _. GoesTo c.args.self.now (kept_changed views s.lists b new) c.carry.new.self) (λ _. AreMade c.args.self.now b moves c.carry.new.self)
+    (λ _ goes. subst (λ (v : BoardView). GoesTo v (kept_changed views s.lists b new) c.carry.new.self → AreMade v b moves c.carry.new.self) c.self.view_is (λ g. record {
+      old = e;
       stands = can.stands;
-      rotation = all_moved nodes moves can.entry.rotation;
-      lead = all-lead tree.part.graph nodes right.0 moves can.entry.rotation right.1 can.are.fit;
-      after_is = done;
-    })
+      rotation = all_moved tree.nodes moves e.rotation;
+      lead = all-lead tree.part.graph tree.nodes right.0 moves e.rotation right.1 can.are.fit;
+      changed = record { plane = moves-keep tree.part.graph tree.nodes right.0 moves e.rotation right.1 can.are.fit; goes = g };
+    }) goes) (c.carry.ensures.done (kept_changed views s.lists b new) leads)

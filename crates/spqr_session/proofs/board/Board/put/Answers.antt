@@ -1,9 +1,13 @@
-use Rattle.std.proofs.Common.{List, ap, sym, ◌∙◌, subst}
+use Rattle.std.proofs.Common.{List, ℕ, Option, sym, ap, ◌∙◌, subst}
+use Rattle.multigraph.specs.Graph.{Multigraph}
+use Rattle.faces.specs.Euler.{IsPlaneSystem}
+use Rattle.spqr_session.specs.State.{Embedding}
 use Rattle.spqr_session.specs.Embedded.{BlockView, view_entry}
-use Rattle.spqr_session.specs.Board.{BoardView, CanReplace, LeadsTo}
+use Rattle.spqr_session.specs.History.{lists_set}
+use Rattle.spqr_session.specs.Board.{BoardView, CanReplace, LeadsTo, kept_changed}
 use Rattle.spqr_session.proofs.BlockTrees.{view-at}
 use Rattle.spqr_session.proofs.Boards.{noted-added}
-use Rattle.spqr_session.proofs.BoardSteps.{put-right, put-done}
+use Rattle.spqr_session.proofs.BoardSteps.{put-right, put-changed}
 use Rattle.spqr_session.proofs.board.Board.put.Goals as goal
 
 pub replace-requires-clause-planar : goal.replace-requires-clause-planar
@@ -13,17 +17,27 @@ replace-requires-clause-planar c =
 
 pub invariant_of-self-2 : goal.invariant_of-self-2
 invariant_of-self-2 c =
-    let can = subst (λ (v : BoardView). CanReplace v.views c.args.b c.requires.0 c.args.plane) (sym c.self.view_is) c.requires.1 in
-    let log = c.self.inside.log in
-    let leads = subst (λ (l : List BlockView). LeadsTo l c.args.b (record { rotation = c.args.plane.rotation; locks = c.args.plane.locks }) c.in_ok-step.step) c.deref.ensures.value c.in_ok-step.ensures in
-    put-right c.self.inside.blocks.items c.args.b (record { rotation = c.args.plane.rotation; locks = c.args.plane.locks }) c.replace.new.self c.index_mut.result.now log c.note.new.self c.in_ok-step.step c.self.invariant
-    can.stands.within c.index_mut.ensures.value c.replace.ensures leads (noted-added log c.reserve.new.self c.note.new.self c.in_ok-step.step c.reserve.ensures.steps c.reserve.ensures.cursor c.note.ensures)
+    let s = c.self.inside in
+    let views = s.blocks.items in
+    let b = c.args.b in
+    let e : Embedding = record { rotation = c.args.plane.rotation; locks = c.args.plane.locks } in
+    let step = c.in_ok-step.step in
+    let can = subst (λ (v : BoardView). CanReplace v.views b c.requires.0 c.args.plane) (sym c.self.view_is) c.requires.1 in
+    let leads = subst (λ (l : List BlockView). LeadsTo l s.lists (kept_changed l s.lists b e) step) c.deref.ensures.value c.in_ok-step.ensures in
+    let set = c.set.ensures ∙ ap (λ (ps : List (ℕ × Option (List ℕ))). lists_set ps s.lists) c.in_ok-lists.ensures in
+    let added = noted-added s.log c.reserve.new.self c.note.new.self step c.reserve.ensures.steps c.reserve.ensures.cursor c.note.ensures in
+    put-right views s.lists c.set.new.self b e c.replace.new.self c.index_mut.result.now step can.stands.within c.index_mut.ensures.value c.replace.ensures s.log c.note.new.self c.args.self.now c.self.invariant c.self.view_is added leads set
 
 pub returns-clause-done : goal.returns-clause-done
 returns-clause-done c =
-    let can = subst (λ (v : BoardView). CanReplace v.views c.args.b c.requires.0 c.args.plane) (sym c.self.view_is) c.requires.1 in
-    let log = c.self.inside.log in
-    let leads = subst (λ (l : List BlockView). LeadsTo l c.args.b (record { rotation = c.args.plane.rotation; locks = c.args.plane.locks }) c.in_ok-step.step) c.deref.ensures.value c.in_ok-step.ensures in
-    put-done c.self.inside.blocks.items c.args.b (record { rotation = c.args.plane.rotation; locks = c.args.plane.locks }) c.replace.new.self c.index_mut.result.now log c.note.new.self c.in_ok-step.step c.self.invariant
-    can.stands.within c.index_mut.ensures.value c.replace.ensures leads (noted-added log c.reserve.new.self c.note.new.self c.in_ok-step.step c.reserve.ensures.steps c.reserve.ensures.cursor c.note.ensures)
-    c.args.self.now c.self.view_is
+    let s = c.self.inside in
+    let views = s.blocks.items in
+    let b = c.args.b in
+    let e : Embedding = record { rotation = c.args.plane.rotation; locks = c.args.plane.locks } in
+    let step = c.in_ok-step.step in
+    let can = subst (λ (v : BoardView). CanReplace v.views b c.requires.0 c.args.plane) (sym c.self.view_is) c.requires.1 in
+    let leads = subst (λ (l : List BlockView). LeadsTo l s.lists (kept_changed l s.lists b e) step) c.deref.ensures.value c.in_ok-step.ensures in
+    let set = c.set.ensures ∙ ap (λ (ps : List (ℕ × Option (List ℕ))). lists_set ps s.lists) c.in_ok-lists.ensures in
+    let added = noted-added s.log c.reserve.new.self c.note.new.self step c.reserve.ensures.steps c.reserve.ensures.cursor c.note.ensures in
+    put-changed views s.lists c.set.new.self b e c.replace.new.self c.index_mut.result.now step can.stands.within c.index_mut.ensures.value c.replace.ensures s.log c.note.new.self c.args.self.now c.self.invariant c.self.view_is added leads set
+    (subst (λ (g : Multigraph). IsPlaneSystem g c.args.plane.rotation) can.graph c.belongs.ensures.plane)

@@ -1,8 +1,16 @@
+use Rattle.std.proofs.Common.{◌≡◌, List, map, ℕ, Option, ap, ◌∙◌}
 use Rattle.undo_log.specs.History.{WentBack}
+use Rattle.spqr_session.specs.Embedded.{view_tree}
+use Rattle.spqr_session.specs.History.{lists_set, undone}
+use Rattle.spqr_session.specs.Board.{kept_on}
 use Rattle.spqr_session.proofs.Boards.{board-back}
 use Rattle.spqr_session.proofs.board.Board.undo.Goals as goal
 
 pub invariant_of-self : goal.invariant_of-self
 invariant_of-self c =
-    let passed : WentBack c.self.inside.log c.in-Ok.step.now c.undo.follows.lender-at-none = rw c.in-Ok.is at c.undo.follows.holds-at-none in
-    board-back _ _ c.self.inside.log c.undo.follows.lender-at-none c.in-Ok.step.now c.carry_back.ensures.carried.trees c.self.invariant passed c.carry_back.ensures.family
+    let s = c.self.inside in
+    let step = c.in-Ok.step.now in
+    let passed : WentBack s.log step c.undo.follows.lender-at-none = rw c.in-Ok.is at c.undo.follows.holds-at-none in
+    let set = c.set.ensures ∙ ap (λ (ps : List (ℕ × Option (List ℕ))). lists_set ps s.lists) (c.in_ok-lists.ensures c.undo.follows.lender-at-none.cursor step passed.cursor passed.passed) in
+    let same : kept_on c.carry_back.new.blocks.items c.set.new.self ≡ undone (map view_tree s.blocks.items) step (kept_on s.blocks.items s.lists) = λ i. record { entries = c.carry_back.ensures.entries i; lists = set i } in
+    board-back s.blocks.items c.carry_back.new.blocks.items s.lists c.set.new.self s.log c.undo.follows.lender-at-none step c.carry_back.ensures.carried c.self.invariant passed same

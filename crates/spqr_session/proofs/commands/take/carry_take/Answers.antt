@@ -1,12 +1,12 @@
 use Rattle.std.proofs.Common.{◌≡◌, List, map, refl, subst}
 use Rattle.spqr_session.specs.State.{State}
-use Rattle.spqr_session.specs.Embedded.{BlockView, view_tree}
+use Rattle.spqr_session.specs.Embedded.{BlockView, view_tree, view_entry}
 use Rattle.spqr_session.specs.Scene.{setting_on}
-use Rattle.spqr_session.specs.Board.{family_on, board_state}
+use Rattle.spqr_session.specs.Board.{state_on}
 use Rattle.spqr_session.specs.Planned.{IsLowestPlanAt, IsSettled}
 use Rattle.spqr_session.specs.Commands.Take.{TakeApplies, IsTaken, TakeStep}
 use Rattle.spqr_session.proofs.Steps.{text-map}
-use Rattle.spqr_session.proofs.Plans.{either-carried}
+use Rattle.spqr_session.proofs.Plans.{either-carried, seen_state}
 use Rattle.spqr_session.proofs.LowestPlans.{lowest-stands, lowest-settled}
 use Rattle.spqr_session.proofs.commands.take.carry_take.Goals as goal
 
@@ -15,18 +15,18 @@ settle-requires c =
     let old = c.args.board.now in
     let entries = c.args.lists.now in
     let x = c.in_ok-planned.planned in
-    let at = (subst (λ (views : List BlockView). (s : State) → s.present ≡ family_on views → IsLowestPlanAt (TakeApplies (map view_tree views) c.args.b entries s) (IsTaken entries) views c.args.b x) c.blocks-2.ensures c.in_ok-planned.ensures) (board_state old) refl in
-    lowest-stands (TakeApplies (map view_tree old.views) c.args.b entries (board_state old)) (IsTaken entries) old.views c.args.b x at
+    let at = (subst (λ (views : List BlockView). (s : State) → s.present.entries ≡ map view_entry views → IsLowestPlanAt (TakeApplies (map view_tree views) c.args.b entries s) (IsTaken entries) views c.args.b x) c.blocks-2.ensures c.in_ok-planned.ensures) (seen_state old) refl in
+    lowest-stands (TakeApplies (map view_tree old.views) c.args.b entries (seen_state old)) (IsTaken entries) old.views c.args.b x at
 
 pub returns-clause-step : goal.returns-clause-step
-returns-clause-step c = λ scene.
+returns-clause-step c = λ scene together.
     let old = c.args.board.now in
     let new = c.settle.new.board in
     let entries = c.args.lists.now in
     let x = c.in_ok-planned.planned in
-    let at = (subst (λ (views : List BlockView). (s : State) → s.present ≡ family_on views → IsLowestPlanAt (TakeApplies (map view_tree views) c.args.b entries s) (IsTaken entries) views c.args.b x) c.blocks-2.ensures c.in_ok-planned.ensures) (board_state old) refl in
-    text-map c.settle.result (λ text. IsSettled c.args.b x old text new) (λ text. TakeStep (setting_on scene old.views) c.args.b entries (board_state old) text (board_state new))
-    (λ text h. lowest-settled (TakeApplies (map view_tree old.views) c.args.b entries (board_state old)) (IsTaken entries) scene c.args.b old new x text at h) c.settle.ensures.done
+    let at = (subst (λ (views : List BlockView). (s : State) → s.present.entries ≡ map view_entry views → IsLowestPlanAt (TakeApplies (map view_tree views) c.args.b entries s) (IsTaken entries) views c.args.b x) c.blocks-2.ensures c.in_ok-planned.ensures) (seen_state old) refl in
+    text-map c.settle.result (λ text. IsSettled c.args.b x old text new) (λ text. TakeStep (setting_on scene old.views) c.args.b entries (state_on scene old.views old) text (state_on scene old.views new))
+    (λ text h. lowest-settled (TakeApplies (map view_tree old.views) c.args.b entries (state_on scene old.views old)) (IsTaken entries) scene old together c.args.b new x text at h) c.settle.ensures.done
 
 pub returns-clause-setting : goal.returns-clause-setting
 returns-clause-setting c = either-carried c.settle.result c.args.b c.in_ok-planned.planned c.args.board.now c.settle.new.board c.settle.ensures.done c.settle.ensures.memory

@@ -1,8 +1,6 @@
-use Rattle.std.proofs.Common.{ap, ◌∙◌, subst, IfOk}
+use Rattle.std.proofs.Common.{ap, ◌∙◌}
 use Rattle.spqr_session.specs.Machine.{Machine}
-use Rattle.spqr_session.specs.Board.{board_state}
-use Rattle.spqr_session.specs.Step.{Step}
-use Rattle.spqr_session.proofs.Sessions.{setting-kept, stepped-machine, memory-machine}
+use Rattle.spqr_session.proofs.Sessions.{setting-kept, stepped-machine, memory-machine, step-seen}
 use Rattle.spqr_session.proofs.session.Session.step.Goals as goal
 
 pub carry_out-requires-clause-setting : goal.carry_out-requires-clause-setting
@@ -17,7 +15,9 @@ invariant_of-self c =
     stepped-machine s.scene.doc s.scene.named s.scene.blocks c.args.command.now s.board c.carry_out.new.board c.carry_out.result c.self.invariant c.carry_out.ensures.setting c.carry_out.ensures.step c.carry_out.ensures.memory
 
 pub returns-clause-step : goal.returns-clause-step
-returns-clause-step c = subst (λ (m : Machine). IfOk c.carry_out.result (λ text. Step m.setting m.state c.args.command.now text.items (board_state c.carry_out.new.board))) c.self.view_is c.carry_out.ensures.step
+returns-clause-step c =
+    let s = c.self.inside in
+    step-seen s.scene.doc s.scene.named s.scene.blocks c.args.command.now s.board c.carry_out.new.board c.carry_out.result c.args.self.now c.self.view_is c.carry_out.ensures.setting c.carry_out.ensures.step
 
 pub returns-clause-setting : goal.returns-clause-setting
 returns-clause-setting c =

@@ -1,0 +1,32 @@
+use Rattle.std.proofs.Common.{List, map, sym, ap, ◌∙◌, subst, ℕ, Option}
+use Rattle.spqr_session.specs.Embedded.{view_tree}
+use Rattle.spqr_session.specs.History.{lists_set, IsStepOf}
+use Rattle.spqr_session.specs.Board.{BoardView, LeadsTo}
+use Rattle.spqr_session.proofs.Boards.{noted-added}
+use Rattle.spqr_session.proofs.BoardSteps.{on-right, on-goes, step-kept}
+use Rattle.spqr_session.proofs.board.Board.carry.Goals as goal
+
+pub carry_forth-requires : goal.carry_forth-requires
+carry_forth-requires c = subst (λ (v : BoardView). IsStepOf (map view_tree v.views) c.args.step) (sym c.self.view_is) c.requires.1.is_step
+
+pub invariant_of-self-2 : goal.invariant_of-self-2
+invariant_of-self-2 c =
+    let s = c.self.inside in
+    let step = c.args.step in
+    let leads = subst (λ (v : BoardView). LeadsTo v.views v.lists c.requires.0 step) (sym c.self.view_is) c.requires.1 in
+    let set = c.set.ensures ∙ ap (λ (ps : List (ℕ × Option (List ℕ))). lists_set ps s.lists) c.in_ok-lists.ensures in
+    let other = c.carry_forth.new.blocks.items in
+    on-right s.blocks.items other s.lists c.set.new.self s.log c.note.new.self step c.requires.0 c.args.self.now c.self.invariant c.self.view_is c.carry_forth.ensures.carried
+    (noted-added s.log c.reserve.new.self c.note.new.self step c.reserve.ensures.steps c.reserve.ensures.cursor c.note.ensures) leads
+    (step-kept s.blocks.items other s.lists c.set.new.self step c.requires.0 leads c.carry_forth.ensures.entries set)
+
+pub returns-clause-done : goal.returns-clause-done
+returns-clause-done c = λ kept given.
+    let s = c.self.inside in
+    let step = c.args.step in
+    let leads = subst (λ (v : BoardView). LeadsTo v.views v.lists kept step) (sym c.self.view_is) given in
+    let set = c.set.ensures ∙ ap (λ (ps : List (ℕ × Option (List ℕ))). lists_set ps s.lists) c.in_ok-lists.ensures in
+    let other = c.carry_forth.new.blocks.items in
+    on-goes s.blocks.items other s.lists c.set.new.self s.log c.note.new.self step kept c.args.self.now c.self.invariant c.self.view_is c.carry_forth.ensures.carried
+    (noted-added s.log c.reserve.new.self c.note.new.self step c.reserve.ensures.steps c.reserve.ensures.cursor c.note.ensures) leads
+    (step-kept s.blocks.items other s.lists c.set.new.self step kept leads c.carry_forth.ensures.entries set)

@@ -1,0 +1,9 @@
+use Rattle.std.proofs.Common.{slice_index_or}
+use Rattle.permutations.proofs.Arrangements.{member-at}
+use Rattle.spqr_session.proofs.whole_steps.all_back.Goals as goal
+
+pub back_of-requires-clause-fits : goal.back_of-requires-clause-fits
+back_of-requires-clause-fits c = c.requires.fits (slice_index_or c.args.numbers.now c.loop-b.b-index 0) (member-at c.args.numbers.now c.loop-b.b-index 0 c.loop-b-test.true)
+
+pub back_of-requires-clause-within : goal.back_of-requires-clause-within
+back_of-requires-clause-within c = c.requires.within (slice_index_or c.args.numbers.now c.loop-b.b-index 0) (member-at c.args.numbers.now c.loop-b.b-index 0 c.loop-b-test.true)
