@@ -1,5 +1,5 @@
 -- Commands that name a block: the codes of their ladders, that they do one thing, and what they leave.
-use Rattle.std.proofs.Common.{◌≡◌, ℕ, ◌<◌, ◌≤◌, Bool, true, false, not, List, [], ◌∷◌, ◌++◌, length, map, Option, None, Some, Result, IfOk, inl, inr, refl, sym, ap, ◌∙◌, subst, arith}
+use Rattle.std.proofs.Common.{◌≡◌, ℕ, ◌<◌, ◌≤◌, Bool, true, false, not, List, [], ◌∷◌, ◌++◌, length, map, slice_index_or, Option, None, Some, Result, IfOk, inl, inr, refl, sym, ap, ◌∙◌, subst, arith}
 use Rattle.std.specs.Global.{Vec}
 use Rattle.std.proofs.lemmas.Bool.{cases_Bool, ltb-true, lt-ltb, true≢false}
 use Rattle.std.proofs.lemmas.List.{length-map}
@@ -148,7 +148,7 @@ pub block-read : {E : Type 0} (more : BlockTree → Embedding → Ladder) (risin
 block-read {E = E} more rising IsAbout views b v r l at told s present =
     text-map r (λ text. TellsBlock v.tree v.entry more IsAbout text) (λ text. ReadStep more IsAbout (map view_tree views) b s text s)
     (λ text t. tells-block more rising IsAbout (map view_tree views) b s (view_at views b).entry text (omega (arith, l, length-map views view_tree))
-    (ap (λ (es : List (Option Embedding)). entry_at (record { entries = es }) b) present ∙ entries-at views b)
+    (ap (λ (es : List (Option Embedding)). slice_index_or es b None) present ∙ entries-at views b)
     (subst (λ (x : BlockTree). TellsBlock x (view_at views b).entry more IsAbout text) (sym (trees-at views b)) (subst (λ (x : BlockView). TellsBlock x.tree x.entry more IsAbout text) at t)))
     told
 

@@ -1,6 +1,7 @@
 -- What the board's functions do to its blocks and its history.
 use Rattle.std.proofs.Common.{◌≡◌, ℕ, zero, suc, ◌+◌, ◌<◌, ◌≤◌, Bool, not, nat_lt, List, [], ◌∷◌, length, map, take, drop, get_or, slice_index_or, slice_set, add-one, Option, None, Some, refl, sym, ap, ◌∙◌, subst, arith, All}
 use Rattle.std.proofs.lemmas.List.{length-map, length-take-le, length-reverse}
+use Rattle.std.proofs.lemmas.List.Elements.{All-head}
 use Rattle.std.proofs.lemmas.Bool.{lt-ltb, le-ltb}
 use Rattle.std.proofs.Math.Seq.{drop-cons}
 use Rattle.multigraph.specs.Graph.{Multigraph}
@@ -184,6 +185,12 @@ pub next-pair : (moves : List BlockMove) (i : ℕ) (m : BlockMove) → i < lengt
 next-pair moves i m l e =
     let cut : drop i moves ≡ m ∷ drop (i + 1) moves = rw add-one (drop-cons moves i m l ∙ ap (λ (x : BlockMove). x ∷ drop (suc i) moves) (sym e)) in
     ap as_pairs cut
+
+-- its block is there
+pub pair-within : (first now : List BlockView) (moves : List BlockMove) (i : ℕ) (m : BlockMove) → i < length moves → m ≡ get_or moves i m → map view_tree now ≡ map view_tree first → All (IsMoveOf (map view_tree first)) (as_pairs (drop i moves)) → m.block < length now
+pair-within first now moves i m l e t a =
+    let h = All-head (IsMoveOf (map view_tree first)) (as_pair m) (as_pairs (drop (i + 1) moves)) (subst (All (IsMoveOf (map view_tree first))) (next-pair moves i m l e) a) in
+    omega (arith, h.0, ap (λ (ts : List BlockTree). length ts) t, length-map now view_tree)
 
 -- a block that is found at a place is changed: trees and certificates stay
 pub set-carried : (views : List BlockView) (b : ℕ) (v w : BlockView) → b < length views → w ≡ get_or views b w → v.tree ≡ w.tree → v.certificate ≡ w.certificate → IsCarried views (slice_set views b v)

@@ -8,7 +8,7 @@ use Rattle.spqr_session.specs.State.{State}
 use Rattle.spqr_session.specs.Codes.{code_number, code_numbers, code_text}
 use Rattle.spqr_session.specs.Commands.Euler.{EulerApplies, EulerDoes, EulerOn, IsGiven, euler_numbers}
 use Rattle.spqr_session.specs.declared.code.Code.{Code}
-use Rattle.spqr_session.specs.declared.code.Code.TheVariants.{NoBlock, NoNode, WrongKind, BadOrder, NonPlanar, BadRotation, NotGenusZero, NothingToUndo, NothingToRedo, CountOver, RankOut, Locked, Parallel}
+use Rattle.spqr_session.specs.declared.code.Code.TheVariants.{NoBlock, NoNode, WrongKind, BadOrder, NonPlanar, BadRotation, NotGenusZero, NothingToUndo, NothingToRedo, CountOver, RankOut, Locked, Parallel, LockedIn, NoComponent, NoCut, BlockOrder, Cross}
 use Rattle.spqr_session.proofs.Arranging.{arranged_or_bad, given-exists, given-one}
 use Rattle.spqr_session.proofs.Carried.{TellsOne, DoesOne, carries-one}
 
@@ -28,6 +28,11 @@ module _ (g : Multigraph) (entries : List (ℕ × List ℕ)) where
   least-code v (RankOut n) a = absurd a
   least-code v (Locked k) a = absurd a
   least-code v (Parallel x y) a = absurd a
+  least-code v (LockedIn x y) a = absurd a
+  least-code v NoComponent a = absurd a
+  least-code v NoCut a = absurd a
+  least-code v (BlockOrder x) a = absurd a
+  least-code v (Cross x y) a = absurd a
 
   -- where the lists are a rotation system no code applies
   none-applies : (r : List (List ℕ)) → IsGiven g entries r → (code : Code) → EulerApplies g entries code → ⊥
@@ -44,6 +49,11 @@ module _ (g : Multigraph) (entries : List (ℕ × List ℕ)) where
   none-applies r is (RankOut n) a = a
   none-applies r is (Locked k) a = a
   none-applies r is (Parallel x y) a = a
+  none-applies r is (LockedIn x y) a = a
+  none-applies r is NoComponent a = a
+  none-applies r is NoCut a = a
+  none-applies r is (BlockOrder x) a = a
+  none-applies r is (Cross x y) a = a
 
   -- the line of the first bad number is the answer
   pub euler-refused : (v : ℕ) (s : State) (text : List ℕ) → IsFirstBad g entries v → text ≡ code_text (BadRotation v) → EulerOn g entries s text s
@@ -75,6 +85,11 @@ module _ (g : Multigraph) (entries : List (ℕ × List ℕ)) where
   bad-of (RankOut n) a = absurd a
   bad-of (Locked k) a = absurd a
   bad-of (Parallel x y) a = absurd a
+  bad-of (LockedIn x y) a = absurd a
+  bad-of NoComponent a = absurd a
+  bad-of NoCut a = absurd a
+  bad-of (BlockOrder x) a = absurd a
+  bad-of (Cross x y) a = absurd a
 
   euler-tells : TellsOne (EulerApplies g entries)
   euler-tells k l a b e =

@@ -1,6 +1,6 @@
 -- The families of what is kept: after a change of a block, a lock, and at the start; and that a change of a block leads from a family to a
 -- family.
-use Rattle.std.proofs.Common.{◌≡◌, ◌≢◌, ℕ, zero, suc, ◌<◌, inl, inr, Bool, true, false, List, [], ◌∷◌, ◌++◌, length, map, replicate, slice_index, slice_index_or, slice_set, Option, None, Some, Contains, refl, sym, ap, ◌∙◌, subst, arith}
+use Rattle.std.proofs.Common.{◌≡◌, ◌≢◌, ℕ, zero, suc, ◌<◌, inl, inr, Bool, true, false, List, [], ◌∷◌, ◌++◌, length, map, replicate, slice_index, slice_index_or, slice_set, Option, None, Some, Contains, refl, sym, ap, ap₂, ◌∙◌, subst, arith}
 use Rattle.std.specs.Prelude.{if◌then◌else◌}
 use Rattle.std.proofs.Math.Path.{fun_ext}
 use Rattle.std.proofs.lemmas.Bool.{cases_Bool, cases_eq, cases_lt, cond-true, cond-false, true≢false}
@@ -27,16 +27,14 @@ use Rattle.spqr_session.specs.Kept.{Kept, list_or_first, lists_kept, arrangement
 use Rattle.spqr_session.specs.BlockCodes.{entry_put, lists_reset, lists_reset_in, family_changed}
 use Rattle.spqr_session.specs.History.{lists_cleared}
 use Rattle.spqr_session.proofs.SettingTrees.{setting-numbered}
-use Rattle.spqr_session.proofs.ListsSet.{cleared-there, cleared-other}
+use Rattle.spqr_session.proofs.ListsSet.{cleared-there, cleared-other, none-kept}
 use Rattle.spqr_session.proofs.ComponentParts.{component-in_plane, kept-arrangements}
 
 -- functions that are the same below a number have the same images
 pub same-below : {X : Type 0} (f g : ℕ → X) (n : ℕ) → ((i : ℕ) → i < n → f i ≡ g i) → map f (numbers_below n) ≡ map g (numbers_below n)
 same-below f g zero h = refl
-same-below f g (suc n) h = map-append f (numbers_below n) (n ∷ []) ∙ last ∙ sym (map-append g (numbers_below n) (n ∷ []))
-  where
-    last : map f (numbers_below n) ++ f n ∷ [] ≡ map g (numbers_below n) ++ g n ∷ []
-    last = λ i. same-below f g n (λ j l. h j (omega (arith, l))) i ++ h n (omega arith) i ∷ []
+same-below f g (suc n) h =
+    map-append f (numbers_below n) (n ∷ []) ∙ ap₂ (λ xs x. xs ++ x ∷ []) (same-below f g n (λ j l. h j (omega (arith, l)))) (h n (omega arith)) ∙ sym (map-append g (numbers_below n) (n ∷ []))
 
 -- the image at a place
 pub image-at : {X : Type 0} (f : ℕ → X) (n i : ℕ) (d : X) → i < n → slice_index_or (map f (numbers_below n)) i d ≡ f i
@@ -105,13 +103,13 @@ module _ (setting : Setting) (is : IsSetting setting) (b : ℕ) (old new : Embed
     lists-changed : (k : Component) (lists : List (Option (List ℕ))) → lists_kept k (blocks_with trees changed_es) (lists_cleared vs lists) ≡ lists_reset k (blocks_with trees changed_es) vs (lists_kept k (blocks_with trees es) lists)
     lists-changed k lists = same-below kept_now_at reset_at (length k.cuts) each ∙ ap (λ (n : ℕ). map reset_at (numbers_below n)) (sym (image-length kept_at (length k.cuts)))
       where
-        abbrev kept_at : ℕ → List ℕ
+        kept_at : ℕ → List ℕ
         kept_at i = list_or_first (slice_index_or lists (slice_index k.cuts i) None) (first_around k (blocks_with trees es) i)
 
-        abbrev kept_now_at : ℕ → List ℕ
+        kept_now_at : ℕ → List ℕ
         kept_now_at i = list_or_first (slice_index_or (lists_cleared vs lists) (slice_index k.cuts i) None) (first_around k (blocks_with trees changed_es) i)
 
-        abbrev reset_at : ℕ → List ℕ
+        reset_at : ℕ → List ℕ
         reset_at i = (if is_member (slice_index k.cuts i) vs then first_around k (blocks_with trees changed_es) i else slice_index_or (lists_kept k (blocks_with trees es) lists) i [])
 
         each : (i : ℕ) → i < length k.cuts → kept_now_at i ≡ reset_at i
@@ -130,13 +128,13 @@ module _ (setting : Setting) (is : IsSetting setting) (b : ℕ) (old new : Embed
     pub family-of_changed : (lists : List (Option (List ℕ))) → family_of setting (record { entries = changed_es; lists = lists_cleared vs lists }) ≡ family_changed setting (family_of setting (record { entries = es; lists = lists })) b new
     family-of_changed lists = λ i. record { entries = changed_es; arrangements = all i }
       where
-        abbrev old_kept : Kept
+        old_kept : Kept
         old_kept = record { entries = es; lists = lists }
 
-        abbrev new_kept : Kept
+        new_kept : Kept
         new_kept = record { entries = changed_es; lists = lists_cleared vs lists }
 
-        abbrev reset : ℕ → Option (List (List ℕ))
+        reset : ℕ → Option (List (List ℕ))
         reset c = lists_reset_in (component_at setting c) (blocks_with trees changed_es) vs (arrangements_in (family_of setting old_kept) c)
 
         by : (c : ℕ) (planar : Bool) → (if planar then Some (lists_kept (component_at setting c) (blocks_with trees changed_es) (lists_cleared vs lists)) else None)
@@ -202,10 +200,10 @@ module _ (setting : Setting) (is : IsSetting setting) (family : Family) (right :
         → AreArranged (component_at setting c) (blocks_with setting.trees es_changed) (lists_reset (component_at setting c) (blocks_with setting.trees es_changed) own lists)
     reset-arranged c h lists planar are = record { one_each = image-length reset_at (length lists) ∙ are.one_each; each = each }
       where
-        abbrev k : Component
+        k : Component
         k = component_at setting c
 
-        abbrev reset_at : ℕ → List ℕ
+        reset_at : ℕ → List ℕ
         reset_at i = (if is_member (slice_index k.cuts i) own then first_around k (blocks_with setting.trees es_changed) i else slice_index_or lists i [])
 
         in-plane : IsComponentInPlane (component_at setting c) (blocks_with setting.trees es_changed)
@@ -233,7 +231,7 @@ module _ (setting : Setting) (is : IsSetting setting) (family : Family) (right :
       arranged = arranged;
     }
       where
-        abbrev reset : ℕ → Option (List (List ℕ))
+        reset : ℕ → Option (List (List ℕ))
         reset c = lists_reset_in (component_at setting c) (blocks_with setting.trees es_changed) own (arrangements_in family c)
 
         arranged : (c : ℕ) → c < setting.structure.component_count → AreArrangements (component_at setting c) (blocks_with setting.trees es_changed) (is_planar_component setting c) (arrangements_in (family_changed setting family b new) c)
@@ -268,16 +266,6 @@ module _ (setting : Setting) (is : IsSetting setting) (family : Family) (right :
           (λ lists planar are. still_arranged c lists are) (arrangements_in family c) (λ lists e. e) (λ e. e)
 
 -- ---- at the start
-
-abbrev no_list : Option (List ℕ)
-no_list = None
-
--- no list is kept
-pub none-kept : (n v : ℕ) → slice_index_or (replicate n no_list) v no_list ≡ no_list
-none-kept n v = elim (cases_lt v n) [
-  | inl l ↦ get_or-replicate n v no_list no_list l
-  | inr f ↦ get_or_past (replicate n no_list) v no_list (omega (arith, f, length-replicate n no_list))
-]
 
 module _ (setting : Setting) (is : IsSetting setting) (es : List (Option Embedding)) (n : ℕ) (long : length es ≡ length setting.trees)
     (each : (j : ℕ) → j < length setting.trees → IsEntry (tree_at setting.trees j) (certificate_at setting.certificates j) (slice_index_or es j None)) where

@@ -44,6 +44,8 @@ pub mod RegroupCodes
 pub mod RegroupCarried
 pub mod KeptLists
 pub mod WholesMade
+pub mod VertexPlaces
+pub mod BoardArranged
 pub mod RegroupMade
 pub mod WholeFamilies
 pub mod WholeWalks

@@ -1,7 +1,7 @@
 -- Lists that are set at vertices, and those that are removed.
-use Rattle.std.proofs.Common.{◌≡◌, ◌≢◌, ℕ, ◌+◌, ◌<◌, ◌⊎◌, inl, inr, true, false, List, [], ◌∷◌, ◌++◌, length, map, get_or, take, slice_index, slice_index_or, slice_set, Option, None, Some, refl, sym, ap, ◌∙◌, subst, arith, add-one, append_assoc}
+use Rattle.std.proofs.Common.{◌≡◌, ◌≢◌, ℕ, ◌+◌, ◌<◌, ◌⊎◌, inl, inr, true, false, List, [], ◌∷◌, ◌++◌, length, map, replicate, get_or, take, slice_index, slice_index_or, slice_set, Option, None, Some, refl, sym, ap, ◌∙◌, subst, arith, add-one, append_assoc}
 use Rattle.std.proofs.lemmas.Bool.{cases_Bool, cases_eq, cases_lt, true≢false}
-use Rattle.std.proofs.lemmas.List.{length-set, set-get_or, get_or-set_same, get_or-set_other, get_or_past, ext_get_or}
+use Rattle.std.proofs.lemmas.List.{length-set, set-get_or, get_or-set_same, get_or-set_other, get_or_past, get_or-replicate, length-replicate, ext_get_or}
 use Rattle.std.proofs.Math.Seq.{take-suc}
 use Rattle.permutations.specs.Members.{is_member}
 use Rattle.permutations.proofs.Members.{member-cases, no_member-head, no_member-tail}
@@ -28,6 +28,16 @@ none-set : (lists : List (Option (List ℕ))) (v u : ℕ) → slice_index_or lis
 none-set lists v u e = elim (cases_eq u v) [
   | inl q ↦ subst (λ (z : ℕ). slice_index_or (slice_set lists v None) z None ≡ None) (sym q) (none-same lists v)
   | inr n ↦ get_or-set_other lists v u None None n ∙ e
+]
+
+abbrev pub no_list : Option (List ℕ)
+no_list = None
+
+-- no list is kept
+pub none-kept : (n v : ℕ) → slice_index_or (replicate n no_list) v no_list ≡ no_list
+none-kept n v = elim (cases_lt v n) [
+  | inl l ↦ get_or-replicate n v no_list no_list l
+  | inr f ↦ get_or_past (replicate n no_list) v no_list (omega (arith, f, length-replicate n no_list))
 ]
 
 -- ---- removed lists
@@ -79,53 +89,53 @@ pub clears-nothing : (vs : List ℕ) (lists : List (Option (List ℕ))) → None
 clears-nothing vs lists h = record { forth = sym (cleared-nothing vs lists h); back = cleared-nothing vs lists h }
 
 module _ (all : List (Option (List ℕ))) where
-  -- the lists after the first change are removed, where those were there or are removed already
+  -- the lists are removed, where those are that were there at first or are removed already
+  forth-one : (vs : List ℕ) (v : ℕ) (lists : List (Option (List ℕ))) → ((u : ℕ) → slice_index_or all u None ≡ None → slice_index_or lists u None ≡ None)
+      → ((x : List (Option (List ℕ))) → ((u : ℕ) → slice_index_or all u None ≡ None → slice_index_or x u None ≡ None) → lists_set (map list_after (clearings all vs)) x ≡ lists_cleared vs x)
+      → (o : Option (List ℕ)) → slice_index_or all v None ≡ o → lists_set (map list_after (removal v o ++ clearings all vs)) lists ≡ lists_cleared vs (slice_set lists v None)
+  forth-one vs v lists h rest None e = rest lists h ∙ ap (lists_cleared vs) (sym (set-none lists v (h v e)))
+  forth-one vs v lists h rest (Some l) e = rest (slice_set lists v None) (λ u n. none-set lists v u (h u n))
+
   forth-of : (vs : List ℕ) (lists : List (Option (List ℕ))) → ((u : ℕ) → slice_index_or all u None ≡ None → slice_index_or lists u None ≡ None) → lists_set (map list_after (clearings all vs)) lists ≡ lists_cleared vs lists
   forth-of [] lists h = refl
-  forth-of (v ∷ vs) lists h = by (slice_index_or all v None) refl
+  forth-of (v ∷ vs) lists h = forth-one vs v lists h (λ x k. forth-of vs x k) (slice_index_or all v None) refl
+
+  -- a list is there, or was removed
+  abbrev Either : List (Option (List ℕ)) → List ℕ → ℕ → Type 0
+  Either lists vs u = (slice_index_or lists u None ≡ slice_index_or all u None) ⊎ ((is_member u vs ≡ true) × (slice_index_or lists u None ≡ None))
+
+  -- so it is after one vertex
+  either-none : (vs : List ℕ) (v : ℕ) (lists : List (Option (List ℕ))) (u : ℕ) → slice_index_or all v None ≡ None → Either lists (v ∷ vs) u → Either lists vs u
+  either-none vs v lists u e (inl s) = inl s
+  either-none vs v lists u e (inr t) = elim (member-cases u v vs t.0) [
+    | inl q ↦ inl (t.1 ∙ sym (ap (λ (z : ℕ). slice_index_or all z None) (sym q) ∙ e))
+    | inr m ↦ inr (m, t.1)
+  ]
+
+  either-some : (vs : List ℕ) (v : ℕ) (lists : List (Option (List ℕ))) (u : ℕ) (k : List ℕ) → u < length lists → slice_index_or all v None ≡ Some k → Either lists (v ∷ vs) u → Either (slice_set lists v (Some k)) vs u
+  either-some vs v lists u k l e h = elim (cases_eq u v) [
+    | inl q ↦ inl (ap (λ (z : ℕ). slice_index_or (slice_set lists v (Some k)) z None) q ∙ get_or-set_same lists v (Some k) None (subst (λ (z : ℕ). z < length lists) q l) ∙ sym (ap (λ (z : ℕ). slice_index_or all z None) q ∙ e))
+    | inr n ↦ either-other h n
+  ]
     where
-      by : (o : Option (List ℕ)) → slice_index_or all v None ≡ o → lists_set (map list_after (removal v o ++ clearings all vs)) lists ≡ lists_cleared vs (slice_set lists v None)
-      by None e = forth-of vs lists h ∙ ap (lists_cleared vs) (sym (set-none lists v (h v e)))
-      by (Some l) e = forth-of vs (slice_set lists v None) (λ u n. none-set lists v u (h u n))
+      either-other : Either lists (v ∷ vs) u → u ≢ v → Either (slice_set lists v (Some k)) vs u
+      either-other (inl s) n = inl (get_or-set_other lists v u (Some k) None n ∙ s)
+      either-other (inr t) n = elim (member-cases u v vs t.0) [
+        | inl q ↦ absurd (n (sym q))
+        | inr m ↦ inr (m, get_or-set_other lists v u (Some k) None n ∙ t.1)
+      ]
 
   -- the changes taken back leave what is there already, and bring the others back
-  back-of : (vs : List ℕ) (lists : List (Option (List ℕ))) (u : ℕ) → u < length lists → (slice_index_or lists u None ≡ slice_index_or all u None) ⊎ ((is_member u vs ≡ true) × (slice_index_or lists u None ≡ None))
-      → slice_index_or (lists_set (map list_before (clearings all vs)) lists) u None ≡ slice_index_or all u None
+  back-one : (vs : List ℕ) (v : ℕ) (lists : List (Option (List ℕ))) (u : ℕ) → u < length lists → Either lists (v ∷ vs) u
+      → ((x : List (Option (List ℕ))) → u < length x → Either x vs u → slice_index_or (lists_set (map list_before (clearings all vs)) x) u None ≡ slice_index_or all u None)
+      → (o : Option (List ℕ)) → slice_index_or all v None ≡ o → slice_index_or (lists_set (map list_before (removal v o ++ clearings all vs)) lists) u None ≡ slice_index_or all u None
+  back-one vs v lists u l h rest None e = rest lists l (either-none vs v lists u e h)
+  back-one vs v lists u l h rest (Some k) e = rest (slice_set lists v (Some k)) (omega (arith, l, length-set lists v (Some k))) (either-some vs v lists u k l e h)
+
+  back-of : (vs : List ℕ) (lists : List (Option (List ℕ))) (u : ℕ) → u < length lists → Either lists vs u → slice_index_or (lists_set (map list_before (clearings all vs)) lists) u None ≡ slice_index_or all u None
   back-of [] lists u l (inl e) = e
   back-of [] lists u l (inr h) = absurd (true≢false (sym h.0))
-  back-of (v ∷ vs) lists u l h = by (slice_index_or all v None) refl
-    where
-      by : (o : Option (List ℕ)) → slice_index_or all v None ≡ o → slice_index_or (lists_set (map list_before (removal v o ++ clearings all vs)) lists) u None ≡ slice_index_or all u None
-      by None e = elim (cases_eq u v) [
-        | inl q ↦ back-of vs lists u l (inl (elim h [
-          | inl s ↦ s
-          | inr t ↦ t.1 ∙ sym (ap (λ (z : ℕ). slice_index_or all z None) q ∙ e)
-        ]))
-        | inr n ↦ back-of vs lists u l (elim h [
-          | inl s ↦ inl s
-          | inr t ↦ inr (
-            elim (member-cases u v vs t.0) [
-              | inl q ↦ absurd (n (sym q))
-              | inr m ↦ m
-            ],
-            t.1,
-          )
-        ])
-      ]
-      by (Some k) e = elim (cases_eq u v) [
-        | inl q ↦ back-of vs (slice_set lists v (Some k)) u (omega (arith, l, length-set lists v (Some k)))
-            (inl (ap (λ (z : ℕ). slice_index_or (slice_set lists v (Some k)) z None) q ∙ get_or-set_same lists v (Some k) None (subst (λ (z : ℕ). z < length lists) q l) ∙ sym (ap (λ (z : ℕ). slice_index_or all z None) q ∙ e)))
-        | inr n ↦ back-of vs (slice_set lists v (Some k)) u (omega (arith, l, length-set lists v (Some k))) (elim h [
-          | inl s ↦ inl (get_or-set_other lists v u (Some k) None n ∙ s)
-          | inr t ↦ inr (
-            elim (member-cases u v vs t.0) [
-              | inl q ↦ absurd (n (sym q))
-              | inr m ↦ m
-            ],
-            get_or-set_other lists v u (Some k) None n ∙ t.1,
-          )
-        ])
-      ]
+  back-of (v ∷ vs) lists u l h = back-one vs v lists u l h (λ x m k. back-of vs x u m k) (slice_index_or all v None) refl
 
   -- they remove the lists at the vertices, and lead back
   pub clears-there : (vs : List ℕ) → Clears vs all (clearings all vs)

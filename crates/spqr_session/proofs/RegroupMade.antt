@@ -12,22 +12,23 @@ use Rattle.whole_embed.specs.declared.members.Member.{Member}
 use Rattle.whole_embed.specs.declared.faults.RegroupFault.TheVariants as fault
 use Rattle.whole_embed.specs.Component.{Component, BlockInPlane, IsComponentInPlane}
 use Rattle.whole_embed.specs.Around.{edges_around, arrangements_around}
-use Rattle.whole_embed.specs.Cuts.{CutState, blocks_in, set_around, IsRegroupRefusal}
+use Rattle.whole_embed.specs.Cuts.{CutState, blocks_in, IsRegroupRefusal}
 use Rattle.spqr_script.specs.Answers.Change.{ok_text}
 use Rattle.spqr_session.specs.Setting.{Setting, IsSetting}
 use Rattle.spqr_session.specs.State.{Embedding, Family, State, IsFamily, IsState, component_at, is_planar_component, blocks_with}
 use Rattle.spqr_session.specs.Kept.{Kept, family_of}
 use Rattle.spqr_session.specs.Codes.{IsLowest, NoneApplies}
 use Rattle.spqr_session.specs.BlockCodes.{with_family}
-use Rattle.spqr_session.specs.Board.{BoardView, kept_now, board_state, GoesTo}
+use Rattle.spqr_session.specs.Board.{BoardView, kept_now, board_state, GoesTo, HavePlaces}
 use Rattle.spqr_session.specs.Components.{blocks_of}
 use Rattle.spqr_session.specs.Commands.Regroup.{component_number, OrdersEdges, RegroupApplies, list_put, RegroupStep}
-use Rattle.spqr_session.specs.Wholes.{AreEntries, HasBlocks, IsArrangementFor, IsRegrouping, IsRegrouped, IsElsewhere}
+use Rattle.spqr_session.specs.Wholes.{AreEntries, HasBlocks, IsArrangementFor, IsRefusedIn, IsRegroupedIn, IsRegrouping, IsRegrouped, IsElsewhere}
 use Rattle.spqr_session.specs.declared.code.Code.{Code}
-use Rattle.spqr_session.specs.declared.code.Code.TheVariants.{BadRotation, NoCut, BlockOrder, Cross}
+use Rattle.spqr_session.specs.declared.code.Code.TheVariants.{NoBlock, NoNode, WrongKind, BadOrder, NonPlanar, BadRotation, NotGenusZero, NothingToUndo, NothingToRedo, CountOver, RankOut, Locked, LockedIn, Parallel, NoComponent, NoCut, BlockOrder, Cross}
 use Rattle.spqr_session.specs.declared.commands.regroup.Regrouping.{Regrouping}
 use Rattle.spqr_session.specs.declared.commands.regroup.Regrouping.TheVariants.{Refused, Arranged}
 use Rattle.spqr_session.proofs.ComponentParts.{cut-there, around-cut}
+use Rattle.spqr_session.proofs.VertexPlaces.{cut-place}
 use Rattle.spqr_session.proofs.KeptLists.{arranged-order, kept-put}
 use Rattle.spqr_session.proofs.RegroupCodes.{lowest-no_order, lowest-no_cut, lowest-changed, lowest-crossing, arranged-none}
 
@@ -65,47 +66,66 @@ module _ (setting : Setting) (v : ℕ) (edges : List ℕ) (s : State) where
     along : (P : Component → (ℕ → BlockInPlane) → Type 0) → P cuts.component (blocks_in all) → P (component_at setting (component_number setting v)) (blocks_of setting s.present)
     along P p = subst (P k) has.blocks (subst (λ (x : Component). P x (blocks_in all)) has.component p)
 
-    pub bad-lowest : (w : ℕ) → IsRegroupRefusal cuts.component (blocks_in all) v edges (fault.BadRotation w) → IsLowest (RegroupApplies setting v edges s) (BadRotation w)
+    bad-lowest : (w : ℕ) → IsRegroupRefusal cuts.component (blocks_in all) v edges (fault.BadRotation w) → IsLowest (RegroupApplies setting v edges s) (BadRotation w)
     bad-lowest w r =
         let q = along (λ x b. IsRegroupRefusal x b v edges (fault.BadRotation w)) r in
         subst (λ (z : ℕ). IsLowest (RegroupApplies setting v edges s) (BadRotation z)) (sym q.0)
         (lowest-no_order setting v edges s (λ x. t) (is.structure.cut_vertices.vertices v m) (λ p. q.1 (subst (λ (l : List ℕ). IsPermutation l edges) (sym (around-cut setting is v m)) p)))
 
-    pub order-lowest : (b : ℕ) → IsRegroupRefusal cuts.component (blocks_in all) v edges (fault.BlockOrder b) → IsLowest (RegroupApplies setting v edges s) (BlockOrder b)
+    order-lowest : (b : ℕ) → IsRegroupRefusal cuts.component (blocks_in all) v edges (fault.BlockOrder b) → IsLowest (RegroupApplies setting v edges s) (BlockOrder b)
     order-lowest b r =
         let q = along (λ x f. IsRegroupRefusal x f v edges (fault.BlockOrder b)) r in
         lowest-changed setting v edges s (orders q.0) b q.1
 
-    pub cross-lowest : (b c : ℕ) → IsRegroupRefusal cuts.component (blocks_in all) v edges (fault.Cross b c) → IsLowest (RegroupApplies setting v edges s) (Cross b c)
+    cross-lowest : (b c : ℕ) → IsRegroupRefusal cuts.component (blocks_in all) v edges (fault.Cross b c) → IsLowest (RegroupApplies setting v edges s) (Cross b c)
     cross-lowest b c r =
         let q = along (λ x f. IsRegroupRefusal x f v edges (fault.Cross b c)) r in
         lowest-crossing setting v edges s (orders q.0) q.1 b c q.2
 
+    refused-lowest : (code : Code) → IsRefusedIn cuts.component (blocks_in all) v edges code → IsLowest (RegroupApplies setting v edges s) code
+    refused-lowest NoBlock r = absurd r
+    refused-lowest NoNode r = absurd r
+    refused-lowest WrongKind r = absurd r
+    refused-lowest BadOrder r = absurd r
+    refused-lowest NonPlanar r = absurd r
+    refused-lowest (BadRotation w) r = bad-lowest w r
+    refused-lowest (NotGenusZero x e f) r = absurd r
+    refused-lowest NothingToUndo r = absurd r
+    refused-lowest NothingToRedo r = absurd r
+    refused-lowest CountOver r = absurd r
+    refused-lowest (RankOut n) r = absurd r
+    refused-lowest (Locked x) r = absurd r
+    refused-lowest (LockedIn b x) r = absurd r
+    refused-lowest (Parallel x y) r = absurd r
+    refused-lowest NoComponent r = absurd r
+    refused-lowest NoCut r = absurd r
+    refused-lowest (BlockOrder b) r = order-lowest b r
+    refused-lowest (Cross b c) r = cross-lowest b c r
+
     -- an arrangement
-    pub arranged-found : (new : CutState) (list : List ℕ) → length cuts.lists ≡ length cuts.component.cuts → Contains (arrangements_around cuts.component (blocks_in all) v) (from_least edges) → new ≡ set_around cuts v (from_least edges)
-        → list ≡ slice_index_or new.lists (place_of new.component.cuts v) [] → IsArrangementFor setting v edges s list
-    arranged-found new list long c e q =
+    arranged-found : (list : List ℕ) → Contains (arrangements_around cuts.component (blocks_in all) v) (from_least edges) → list ≡ from_least edges → IsArrangementFor setting v edges s list
+    arranged-found list c q =
         let has_it : Contains (arrangements_around k block v) (from_least edges) = along (λ x f. Contains (arrangements_around x f v) (from_least edges)) c in
         let round = arranged-order cuts.component (blocks_in all) v (from_least edges) has.in_plane here c in
         let all_of : IsPermutation (edges_around k v) edges = turned-back (edges_around k v) edges (subst (λ (x : Component). IsPermutation (edges_around x v) (from_least edges)) has.component round.arranged) in
         let o : OrdersEdges setting v edges = orders all_of in
-        record {
-          none = arranged-none setting v edges s is right o has_it;
-          orders = o;
-          arranged = has_it;
-          list_is = q ∙ ap (λ (x : CutState). slice_index_or x.lists (place_of x.component.cuts v) []) e ∙ get_or-set_same cuts.lists (place_of cuts.component.cuts v) (from_least edges) [] (omega (arith, place-below cuts.component.cuts v here, long));
-        }
+        record { none = arranged-none setting v edges s is right o has_it; orders = o; arranged = has_it; list_is = q }
+
+    -- so what was found is what is to be done
+    pub regrouped-plan : (planned : Regrouping) → IsRegroupedIn cuts.component (blocks_in all) v edges planned → IsRegrouping setting v edges s planned
+    regrouped-plan (Refused code) r = refused-lowest code r
+    regrouped-plan (Arranged list) r = arranged-found list r.0 r.1
 
 -- ---- the step
 
-module _ (setting : Setting) (v : ℕ) (edges : List ℕ) (before after : BoardView) (is : IsSetting setting) (places : length before.lists ≡ setting.named.graph.vertex_count) where
+module _ (setting : Setting) (v : ℕ) (edges : List ℕ) (before after : BoardView) (is : IsSetting setting) (places : HavePlaces setting.trees (length before.lists)) where
   abbrev s : State
   s = board_state setting before
 
   -- the state after a list was kept
   state-arranged : (l : List ℕ) → OrdersEdges setting v edges → GoesTo before (record { entries = (kept_now before).entries; lists = slice_set before.lists v (Some l) }) after → board_state setting after ≡ with_family (board_state setting before) (list_put setting v l (family_of setting (kept_now before)))
   state-arranged l o goes =
-      let within : v < length before.lists = omega (arith, is.structure.cut_vertices.vertices v o.cut, places) in
+      let within : v < length before.lists = cut-place setting (length before.lists) v is places o.cut in
       let present : family_of setting (kept_now after) ≡ list_put setting v l (family_of setting (kept_now before)) = ap (family_of setting) goes.present ∙ kept-put setting (kept_now before) v l is o.cut o.planar within in
       λ i. record { present = present i; earlier = map (family_of setting) (goes.earlier i); later = map (family_of setting) (goes.later i) }
 

@@ -22,7 +22,7 @@ use Rattle.spqr_session.specs.Codes.{code_number, IsLowest, NoneApplies}
 use Rattle.spqr_session.specs.Commands.Take.{IsLockedOut, TakeApplies, IsTaken}
 use Rattle.spqr_session.specs.Planned.{TakenCodes, EntryTakenCodes}
 use Rattle.spqr_session.specs.declared.code.Code.{Code}
-use Rattle.spqr_session.specs.declared.code.Code.TheVariants.{NoBlock, NoNode, WrongKind, BadOrder, NonPlanar, BadRotation, NotGenusZero, NothingToUndo, NothingToRedo, CountOver, RankOut, Locked, Parallel}
+use Rattle.spqr_session.specs.declared.code.Code.TheVariants.{NoBlock, NoNode, WrongKind, BadOrder, NonPlanar, BadRotation, NotGenusZero, NothingToUndo, NothingToRedo, CountOver, RankOut, Locked, Parallel, LockedIn, NoComponent, NoCut, BlockOrder, Cross}
 use Rattle.spqr_session.proofs.Changes.{embedding-same}
 use Rattle.spqr_session.proofs.GivenParts.{one-bad, arranged-not_bad, arranged_or_bad, given-exists, given-one}
 
@@ -67,6 +67,11 @@ module _ (entries : List (ℕ × List ℕ)) (tree : BlockTree) (numbered : IsNum
   reason e (RankOut n) a = absurd a
   reason e (Locked k) a = inr (inr (k, a, refl))
   reason e (Parallel x y) a = absurd a
+  reason e (LockedIn x y) a = absurd a
+  reason e NoComponent a = absurd a
+  reason e NoCut a = absurd a
+  reason e (BlockOrder x) a = absurd a
+  reason e (Cross x y) a = absurd a
 
   -- lists that are no rotation system have no other code
   bad-alone : (e : Embedding) (v : ℕ) (other : Code) → IsFirstBadInPart tree.part entries v → TakenCodes entries tree e other → other ≡ BadRotation v
@@ -220,6 +225,11 @@ module _ (entries : List (ℕ × List ℕ)) (trees : List BlockTree) (b : ℕ) (
   entry-up (Some e) p l (RankOut n) h = absurd h
   entry-up (Some e) p l (Locked k) h = (l, (e, p, subst (λ (t : BlockTree). IsLockedOut t entries e k) (sym there) h))
   entry-up (Some e) p l (Parallel x y) h = absurd h
+  entry-up (Some e) p l (LockedIn x y) h = absurd h
+  entry-up (Some e) p l NoComponent h = absurd h
+  entry-up (Some e) p l NoCut h = absurd h
+  entry-up (Some e) p l (BlockOrder x) h = absurd h
+  entry-up (Some e) p l (Cross x y) h = absurd h
 
   pub entry-down : (o : Option Embedding) → entry_at s.present b ≡ o → b < length trees → (code : Code) → TakeApplies trees b entries s code → EntryTakenCodes entries tree o code
   entry-down o p l NoBlock a = absurd (omega (arith, a, l))
@@ -235,6 +245,11 @@ module _ (entries : List (ℕ × List ℕ)) (trees : List BlockTree) (b : ℕ) (
   entry-down o p l (RankOut n) a = absurd a
   entry-down o p l (Locked k) a = let w = a.1 in subst (λ (x : Option Embedding). EntryTakenCodes entries tree x (Locked k)) (sym w.1 ∙ p) (subst (λ (t : BlockTree). IsLockedOut t entries w.0 k) there w.2)
   entry-down o p l (Parallel x y) a = absurd a
+  entry-down o p l (LockedIn x y) a = absurd a
+  entry-down o p l NoComponent a = absurd a
+  entry-down o p l NoCut a = absurd a
+  entry-down o p l (BlockOrder x) a = absurd a
+  entry-down o p l (Cross x y) a = absurd a
 
   -- so the lowest is the same
   pub entry-lowest : (o : Option Embedding) → entry_at s.present b ≡ o → b < length trees → (code : Code) → IsLowest (EntryTakenCodes entries tree o) code → IsLowest (TakeApplies trees b entries s) code
@@ -255,6 +270,11 @@ outside-alone entries trees b s l CountOver a = absurd a
 outside-alone entries trees b s l (RankOut n) a = absurd a
 outside-alone entries trees b s l (Locked k) a = let i = a.0 in absurd (omega (arith, l, i))
 outside-alone entries trees b s l (Parallel x y) a = absurd a
+outside-alone entries trees b s l (LockedIn x y) a = absurd a
+outside-alone entries trees b s l NoComponent a = absurd a
+outside-alone entries trees b s l NoCut a = absurd a
+outside-alone entries trees b s l (BlockOrder x) a = absurd a
+outside-alone entries trees b s l (Cross x y) a = absurd a
 
 -- a code that is alone is the lowest
 pub alone-lowest : (applies : Code → Type 0) (code : Code) → applies code → ((other : Code) → applies other → other ≡ code) → IsLowest applies code

@@ -1,6 +1,6 @@
 -- The blocks on the board as calls on components have them, and components with these and with the lists that are kept.
 use mathlib.Core.Path.{fun_ext}
-use Rattle.std.proofs.Common.{◌≡◌, ◌≢◌, ℕ, zero, suc, ◌+◌, ◌<◌, ◌≤◌, Bool, true, false, List, [], ◌∷◌, ◌++◌, length, map, get_or, slice_index, slice_index_or, slice_set, Option, None, Some, inl, inr, refl, sym, ap, ◌∙◌, subst, arith, length-append, eq-eqb, eqb-true}
+use Rattle.std.proofs.Common.{◌≡◌, ◌≢◌, ℕ, zero, suc, ◌+◌, ◌<◌, ◌≤◌, Bool, true, false, not, ◌&&◌, List, [], ◌∷◌, ◌++◌, length, map, get_or, slice_index, slice_index_or, slice_set, Option, None, Some, inl, inr, refl, sym, ap, ◌∙◌, subst, arith, length-append, eq-eqb, eqb-true}
 use Rattle.std.proofs.Math.Seq.{get_or-append_seam}
 use Rattle.std.proofs.lemmas.Bool.{cases_eq, cases_lt, true≢false, false_from_ne_true}
 use Rattle.std.proofs.lemmas.List.{get_or_append_left, get_or_past, length-map, length-set, get_or-set_same, get_or-set_other, get_or-map}
@@ -21,7 +21,8 @@ use Rattle.whole_embed.specs.Component.{Component, BlockInPlane, has_edge, compo
 use Rattle.whole_embed.specs.Cuts.{CutState, no_part, in_plane, member_at, blocks_in, HavePlanes, set_around}
 use Rattle.whole_embed.specs.Keeping.{AreFirstTo}
 use Rattle.whole_embed.specs.Walk.{first_around}
-use Rattle.whole_embed.specs.Whole.{AreArranged}
+use Rattle.whole_embed.specs.Whole.{AreArranged, whole_lists}
+use Rattle.spqr_script.specs.Answers.Whole.{whole_text}
 use Rattle.whole_embed.proofs.Outer.{place-rising}
 use Rattle.whole_embed.proofs.Components.{block-in, in-block}
 use Rattle.spqr_session.specs.Trees.{BlockTree, no_tree, tree_at}
@@ -30,7 +31,7 @@ use Rattle.spqr_session.specs.Setting.{Setting, IsSetting}
 use Rattle.spqr_session.specs.State.{Embedding, IsFamily, component_at, lacks_certificate, is_planar_component, block_with_entry, blocks_with, first_lists}
 use Rattle.spqr_session.specs.Embedded.{BlockView, view_tree, view_entry, block_view, IsEmbedded, no_view, view_at}
 use Rattle.spqr_session.specs.Kept.{Kept, list_or_first, lists_kept, family_of}
-use Rattle.spqr_session.specs.Wholes.{IsMemberOf, AreMembersOf, AreEntries, ArePlanarBelow, HasBlocks, IsFirstComponent, IsPresentComponent, AreOrdersKept, AreSetTo}
+use Rattle.spqr_session.specs.Wholes.{IsMemberOf, AreMembersOf, AreEntries, ArePlanarBelow, HasBlocks, IsFirstComponent, IsPresentComponent, AreOrdersKept, set_if, AreSetTo, IsWholeTold}
 use Rattle.spqr_session.proofs.Views.{trees-at}
 use Rattle.spqr_session.proofs.ComponentParts.{block-there, block-embedding, blocks-in_plane, component-in_plane, family-arranged, family-in_plane, kept-lists}
 use Rattle.spqr_session.proofs.KeptLists.{lists-are, lists-at, kept-is, kept-order}
@@ -157,7 +158,7 @@ module _ (lists : List (Option (List ℕ))) (old : CutState) where
     vertex = at ∙ ap (λ (k : Component). slice_index k.cuts n) so.component
 
     -- no list is kept there
-    pub set-stays : slice_index_or lists v None ≡ None → AreSetTo (n + 1) lists old new
+    set-stays : slice_index_or lists v None ≡ None → AreSetTo (n + 1) lists old new
     set-stays e = record {
       component = so.component;
       count = so.count;
@@ -169,7 +170,7 @@ module _ (lists : List (Option (List ℕ))) (old : CutState) where
     }
 
     -- a list is
-    pub set-more : (l : List ℕ) → slice_index_or lists v None ≡ Some l → n < length new.component.cuts → Rises new.component.cuts → length new.lists ≡ length new.component.cuts → AreSetTo (n + 1) lists old (set_around new v l)
+    set-more : (l : List ℕ) → slice_index_or lists v None ≡ Some l → n < length new.component.cuts → Rises new.component.cuts → length new.lists ≡ length new.component.cuts → AreSetTo (n + 1) lists old (set_around new v l)
     set-more l e within rise long = record {
       component = so.component;
       count = length-set new.lists (place_of new.component.cuts v) l ∙ so.count;
@@ -192,6 +193,11 @@ module _ (lists : List (Option (List ℕ))) (old : CutState) where
 
         other : (i : ℕ) → i ≢ n → slice_index_or (slice_set new.lists (place_of new.component.cuts v) l) i [] ≡ slice_index_or new.lists i []
         other i d = ap (λ (z : ℕ). slice_index_or (slice_set new.lists z l) i []) place ∙ get_or-set_other new.lists n i l [] d
+
+    -- either
+    pub set-one : (o : Option (List ℕ)) → slice_index_or lists v None ≡ o → n < length new.component.cuts → Rises new.component.cuts → length new.lists ≡ length new.component.cuts → AreSetTo (n + 1) lists old (set_if new v o)
+    set-one None e within rise long = set-stays e
+    set-one (Some l) e within rise long = set-more l e within rise long
 
 -- the lists that are kept at the cut vertices of a component
 module _ (setting : Setting) (kept : Kept) (c : ℕ) (is : IsSetting setting) (right : IsFamily setting (family_of setting kept)) (l : c < setting.structure.component_count) (t : is_planar_component setting c ≡ true) where
@@ -235,7 +241,25 @@ module _ (setting : Setting) (kept : Kept) (c : ℕ) (is : IsSetting setting) (r
           arranged = subst (AreArranged new.component (blocks_in all)) (sym there) (subst (λ (x : Component). AreArranged x (blocks_in all) (lists_kept k block kept.lists)) (sym own) (subst (λ (f : ℕ → BlockInPlane). AreArranged k f (lists_kept k block kept.lists)) (sym b.blocks) all-arranged));
         }
 
+-- the text of the present component
+pub whole-told : (setting : Setting) (kept : Kept) (c : ℕ) (cuts : CutState) (all : List Member) → IsPresentComponent setting kept c cuts all → (lists : List (ℕ × List ℕ)) → lists ≡ whole_lists cuts.component (blocks_in all) cuts.lists → (text : List ℕ) → text ≡ whole_text c lists
+    → IsWholeTold setting c (family_of setting kept) text
+whole-told setting kept c cuts all is lists e text h =
+    let b = is.blocks in
+    record { lists = cuts.lists; present = is.present; answer = h ∙ ap (whole_text c) (e ∙ λ i. whole_lists (b.component i) (b.blocks i) cuts.lists) }
+
 -- ---- planar components
+
+-- a test of a block that hinders
+pub not-hindered : (r has lacks : Bool) → r ≡ (has && not lacks) → r ≡ false → has ≡ true → lacks ≡ true
+not-hindered r true true e f h = refl
+not-hindered r true false e f h = absurd (true≢false (sym e ∙ f))
+not-hindered r false lacks e f h = absurd (true≢false (sym h))
+
+pub hindered : (r has lacks : Bool) → r ≡ (has && not lacks) → r ≡ true → (has ≡ true) × (lacks ≡ false)
+hindered r true true e f = absurd (true≢false (sym f ∙ e))
+hindered r true false e f = (refl, refl)
+hindered r false lacks e f = absurd (true≢false (sym f ∙ e))
 
 module _ (setting : Setting) (is : IsSetting setting) (c : ℕ) where
   abbrev has : ℕ → Bool

@@ -1,5 +1,5 @@
 -- The blocks and the lists of a component that are put on a board: they may be put there, and the state after it.
-use Rattle.std.proofs.Common.{◌≡◌, ℕ, ◌<◌, true, List, [], ◌∷◌, length, map, slice_index, slice_index_or, Option, None, Some, refl, sym, ap, ◌∙◌, subst, arith}
+use Rattle.std.proofs.Common.{◌≡◌, ℕ, ◌<◌, true, ◌==◌, List, [], ◌∷◌, length, map, slice_index, slice_index_or, Option, None, Some, refl, sym, ap, ◌∙◌, subst, arith}
 use Rattle.permutations.specs.Members.{is_member}
 use Rattle.permutations.proofs.Arrangements.{member-at}
 use Rattle.kuratowski.specs.declared.subdivision.Subdivision.{Subdivision}
@@ -17,14 +17,16 @@ use Rattle.spqr_session.specs.Kept.{Kept, family_of}
 use Rattle.spqr_session.specs.Embedded.{BlockView, view_tree, view_entry, view_at, IsInPlane}
 use Rattle.spqr_session.specs.BlockCodes.{with_family}
 use Rattle.spqr_session.specs.Components.{family_with}
-use Rattle.spqr_session.specs.Board.{BoardView, kept_on, kept_now, board_state}
+use Rattle.spqr_session.specs.Board.{BoardView, HavePlaces, kept_on, kept_now, board_state}
 use Rattle.spqr_session.specs.WholeSteps.{FitsMember, IsWholeTarget, GoesToWhole}
 use Rattle.spqr_session.proofs.SettingTrees.{setting-tree}
 use Rattle.spqr_session.proofs.Views.{trees-at, entries-at}
 use Rattle.spqr_session.proofs.ComponentParts.{block-there, block-embedding}
+use Rattle.permutations.proofs.Filter.{member-filter_parts}
+use Rattle.spqr_session.proofs.VertexPlaces.{cut-place}
 use Rattle.spqr_session.proofs.KeptWholes.{target-part, target-fits, kept-whole}
 
-module _ (setting : Setting) (is : IsSetting setting) (board : BoardView) (right : IsFamily setting (family_of setting (kept_now board))) (seen : setting.trees ≡ map view_tree board.views) (places : length board.lists ≡ setting.named.graph.vertex_count) (c : ℕ)
+module _ (setting : Setting) (is : IsSetting setting) (board : BoardView) (right : IsFamily setting (family_of setting (kept_now board))) (seen : setting.trees ≡ map view_tree board.views) (places : HavePlaces setting.trees (length board.lists)) (c : ℕ)
     (within : c < setting.structure.component_count) (planar : is_planar_component setting c ≡ true) (q : List (List ℕ)) (cuts : CutState) (all : List Member) (target : IsWholeTarget setting c (family_of setting (kept_now board)) q cuts all) where
   here : (b : ℕ) → is_member b cuts.component.blocks ≡ true → is_member b (component_at setting c).blocks ≡ true
   here b m = subst (λ (z : Component). is_member b z.blocks ≡ true) target.component m
@@ -47,8 +49,8 @@ module _ (setting : Setting) (is : IsSetting setting) (board : BoardView) (right
   pub put-vertices : (i : ℕ) → i < length cuts.component.cuts → slice_index cuts.component.cuts i < length board.lists
   put-vertices i l =
       let m : is_member (slice_index cuts.component.cuts i) (component_at setting c).cuts ≡ true = subst (λ (z : Component). is_member (slice_index cuts.component.cuts i) z.cuts ≡ true) target.component (member-at cuts.component.cuts i 0 l) in
-      let v = vertex-in setting.named.graph setting.structure c is.structure (slice_index cuts.component.cuts i) (cut-in setting.named.graph setting.structure c is.structure (slice_index cuts.component.cuts i) m) in
-      omega (arith, v.0, places)
+      let cut = member-filter_parts (λ v. slice_index setting.structure.components v == c) setting.structure.cut_vertices (slice_index cuts.component.cuts i) m in
+      cut-place setting (length board.lists) (slice_index cuts.component.cuts i) is places cut.0
 
   -- the state after it
   pub put-state : (after : BoardView) → GoesToWhole board cuts all after → board_state setting after ≡ with_family (board_state setting board) (family_with setting c q (family_of setting (kept_now board)))

@@ -1,5 +1,6 @@
 -- The blocks of a session and the lists at its cut vertices, with what was kept before and after: what commands change.
-use Rattle.std.specs.Prelude.{◌≡◌, ℕ, ◌<◌, List, [], ◌∷◌, ◌++◌, length, map, slice_index_or, slice_set, Option, None, Some}
+use Rattle.std.specs.Prelude.{◌≡◌, ℕ, ◌<◌, true, List, [], ◌∷◌, ◌++◌, length, map, slice_index_or, slice_set, Option, None, Some}
+use Rattle.permutations.specs.Members.{is_member}
 use Rattle.rotations.specs.Runs.{mirror_image}
 use Rattle.faces.specs.Euler.{IsPlaneSystem}
 use Rattle.skeletons.specs.Moves.{Move, Lead}
@@ -7,6 +8,7 @@ use Rattle.skel_embed.specs.Block.{BlockState}
 use Rattle.undo_log.specs.History as undo_log
 use Rattle.undo_log.specs.declared.step.CutChange.{CutChange}
 use Rattle.undo_log.specs.declared.step.Step.{Step}
+use Rattle.spqr_session.specs.Trees.{BlockTree, tree_at}
 use Rattle.spqr_session.specs.Setting.{Setting, IsSetting}
 use Rattle.spqr_session.specs.State.{Embedding, State, IsState}
 use Rattle.spqr_session.specs.Kept.{Kept, family_of}
@@ -93,9 +95,13 @@ board_view views lists log = record {
   later = walk (redone (map view_tree views)) (kept_on views lists) (steps_after log);
 }
 
--- the history belongs to what is kept
+-- there is a place for a list at each vertex of a block, where there are n places
+abbrev pub HavePlaces : List BlockTree → ℕ → Type 0
+HavePlaces trees n = (b v : ℕ) → is_member v (tree_at trees b).part.vertices ≡ true → v < n
+
+-- the history belongs to what is kept, and a list may be kept at each vertex of a block
 abbrev pub IsBoard : List BlockView → List (Option (List ℕ)) → undo_log.History → Type 0
-IsBoard views lists log = IsHistory (map view_tree views) (kept_on views lists) log
+IsBoard views lists log = IsHistory (map view_tree views) (kept_on views lists) log × HavePlaces (map view_tree views) (length lists)
 
 -- trees and certificates stay
 pub record IsCarried (old new : List BlockView) : Type 0 where
@@ -157,8 +163,7 @@ pub record IsMirroredAt (before : BoardView) (b : ℕ) (after : BoardView) : Typ
 abbrev pub state_on : Scene → List BlockView → BoardView → State
 state_on scene views board = board_state (setting_on scene views) board
 
--- a scene and a board belong together: they are a setting, and a state on it, and the board has a list for each vertex, or none
+-- a scene and a board belong together: they are a setting, and a state on it
 pub record BelongTogether (scene : Scene) (board : BoardView) : Type 0 where
   pub setting : IsSetting (setting_on scene board.views)
   pub state : IsState (setting_on scene board.views) (state_on scene board.views board)
-  pub lists : length board.lists ≡ scene.named.graph.vertex_count

@@ -6,9 +6,10 @@ use Rattle.rotations.specs.Rotation.{IsCyclicOrder}
 use Rattle.blocks.specs.Blocks.{block_at}
 use Rattle.skel_embed.specs.Block.{BlockState}
 use Rattle.whole_embed.specs.declared.members.Member.{Member}
+use Rattle.whole_embed.specs.declared.faults.RegroupFault.TheVariants as fault
 use Rattle.whole_embed.specs.Component.{Component, BlockInPlane, has_edge, IsComponentInPlane}
 use Rattle.whole_embed.specs.Around.{edges_around, arrangements_around}
-use Rattle.whole_embed.specs.Cuts.{CutState, in_plane, member_at, blocks_in, HavePlanes}
+use Rattle.whole_embed.specs.Cuts.{CutState, in_plane, member_at, blocks_in, HavePlanes, set_around, IsRegroupRefusal}
 use Rattle.whole_embed.specs.Whole.{AreArranged}
 use Rattle.whole_embed.specs.Walk.{first_around}
 use Rattle.spqr_session.specs.Trees.{tree_at}
@@ -24,7 +25,7 @@ use Rattle.spqr_session.specs.Components.{blocks_of}
 use Rattle.spqr_session.specs.Commands.Regroup.{component_number, OrdersEdges, RegroupApplies}
 use Rattle.spqr_session.specs.Commands.Whole.{IsWhole}
 use Rattle.spqr_session.specs.declared.code.Code.{Code}
-use Rattle.spqr_session.specs.declared.code.Code.TheVariants.{BadRotation, NoCut}
+use Rattle.spqr_session.specs.declared.code.Code.TheVariants.{BadRotation, NoCut, BlockOrder, Cross}
 use Rattle.spqr_session.specs.declared.commands.regroup.Regrouping.{Regrouping}
 use Rattle.spqr_session.specs.declared.commands.regroup.Regrouping.TheVariants.{Refused, Arranged}
 
@@ -69,6 +70,11 @@ pub record IsPresentComponent (setting : Setting) (kept : Kept) (c : ℕ) (cuts 
 abbrev pub AreOrdersKept : Component → List (Option (List ℕ)) → Type 0
 AreOrdersKept k lists = (i : ℕ) (l : List ℕ) → i < length k.cuts → slice_index_or lists (slice_index k.cuts i) None ≡ Some l → IsCyclicOrder (edges_around k (slice_index k.cuts i)) l
 
+-- the component with a list set at vertex v, if there is one
+abbrev pub set_if : CutState → ℕ → Option (List ℕ) → CutState
+set_if cuts v None = cuts
+set_if cuts v (Some l) = set_around cuts v l
+
 -- the first n lists of a component are those that are kept, where there are any; all others are as before
 pub record AreSetTo (n : ℕ) (lists : List (Option (List ℕ))) (old new : CutState) : Type 0 where
   pub component : new.component ≡ old.component
@@ -89,6 +95,13 @@ pub record IsWholeTold (setting : Setting) (c : ℕ) (family : Family) (text : L
   pub present : arrangements_in family c ≡ Some lists
   pub answer : IsWhole setting c family lists text
 
+-- a code that says why a list for cut vertex v of a component is no arrangement
+abbrev pub IsRefusedIn : Component → (ℕ → BlockInPlane) → ℕ → List ℕ → Code → Type 0
+IsRefusedIn k block v edges (BadRotation w) = IsRegroupRefusal k block v edges (fault.BadRotation w)
+IsRefusedIn k block v edges (BlockOrder b) = IsRegroupRefusal k block v edges (fault.BlockOrder b)
+IsRefusedIn k block v edges (Cross b c) = IsRegroupRefusal k block v edges (fault.Cross b c)
+IsRefusedIn k block v edges code = ⊥
+
 -- what `regroup` is to do: it is refused by the lowest code, or sets this list
 abbrev pub IsRegrouping : Setting → ℕ → List ℕ → State → Regrouping → Type 0
 IsRegrouping setting v edges s (Refused code) = IsLowest (RegroupApplies setting v edges s) code
@@ -106,3 +119,8 @@ IsRegrouped v (Arranged list) before text after = (text ≡ ok_text) × GoesTo b
 -- code 6 of a list for a vertex that is no ordering of its edges, and else code 15
 abbrev pub IsElsewhere : Multigraph → ℕ → List ℕ → Code → Type 0
 IsElsewhere g v edges code = ((IsPermutation (incident_edges g v) edges → ⊥) × (code ≡ BadRotation v)) ⊎ (IsPermutation (incident_edges g v) edges × (code ≡ NoCut))
+
+-- what is found of a list for cut vertex v of a component: why it is no arrangement, or the list from its least edge on, which is one
+abbrev pub IsRegroupedIn : Component → (ℕ → BlockInPlane) → ℕ → List ℕ → Regrouping → Type 0
+IsRegroupedIn k block v edges (Refused code) = IsRefusedIn k block v edges code
+IsRegroupedIn k block v edges (Arranged list) = Contains (arrangements_around k block v) (from_least edges) × (list ≡ from_least edges)

@@ -1,5 +1,5 @@
 // The blocks of a session with the history of their changes.
-ghost use Rattle.std.specs.Prelude.{◌≡◌, ◌<◌, ◌-◌, ℕ, List, Option, false, not, [], length, map, replicate, slice_index_or, slice_set, None, Some, IfOk, OnErr, MatchOption, All};
+ghost use Rattle.std.specs.Prelude.{◌≡◌, ◌<◌, ◌+◌, ℕ, List, Option, false, not, [], length, map, replicate, slice_index_or, slice_set, None, Some, IfOk, OnErr, MatchOption, All};
 ghost use Rattle.skeletons.specs.Moves.{moves_between};
 ghost use Rattle.skel_embed.specs.Values.{as_moves};
 ghost use Rattle.undo_log.specs.History.{IsStepAt};
@@ -11,7 +11,7 @@ ghost use Rattle.spqr_session.specs.Moved.{all_moved, LeadBack};
 ghost use Rattle.spqr_session.specs.History.{as_pairs, IsMoveOf, IsStepOf, pairs_moved, node_locked, entries_redone, entries_undone, lists_before, lists_after};
 ghost use Rattle.spqr_session.specs.Commands.History.{is_none};
 ghost use Rattle.spqr_session.specs.Commands.Lock.{with_lock};
-ghost use Rattle.spqr_session.specs.Board.{StandsAt, CanReplace, CanMake, AreMade, IsMirroredAt, IsChangedTo, GoesTo, LeadsTo, IsCarried, kept_with_entry, kept_changed, IsUndone, IsRedone};
+ghost use Rattle.spqr_session.specs.Board.{HavePlaces, StandsAt, CanReplace, CanMake, AreMade, IsMirroredAt, IsChangedTo, GoesTo, LeadsTo, IsCarried, kept_with_entry, kept_changed, IsUndone, IsRedone};
 ghost use Rattle.spqr_session.specs.Wholes.{kept_arranged};
 
 use crate::embedded::EmbeddedBlock;
@@ -46,13 +46,12 @@ impl Model for Board {
 impl Board {
     /// The blocks of a graph with `n` vertices, each cut vertex with its first arrangement, and no change before or after.
     pub fn of(alloc: Global, n: u32, blocks: Vec<EmbeddedBlock>) -> Result<Board, AllocError>
+        requires { HavePlaces (map view_tree blocks.items) n }
         ensures { IfOk result (λ board. board ≡ record { views = blocks.items; lists = replicate n None; earlier = []; later = [] }) }
     {
-        Ok(Board {
-            blocks,
-            lists: KeptLists::none(alloc, n)?,
-            log: UndoLog::new(alloc),
-        })
+        let lists = KeptLists::none(alloc, n)?;
+        let log = UndoLog::new(alloc);
+        Ok(Board { blocks, lists, log })
     }
 
     /// The blocks.
@@ -60,6 +59,13 @@ impl Board {
         ensures { result.now ≡ self.now.views }
     {
         &self.blocks
+    }
+
+    /// A list may be kept at each vertex of a block. For proofs alone: does nothing.
+    pub fn keeps_places(&self)
+        ensures { HavePlaces (map view_tree self.now.views) (length self.now.lists) }
+    {
+        let _ = self.blocks.len();
     }
 
     /// The list that is kept at vertex `v`.
@@ -295,23 +301,34 @@ fn lock_step(blocks: &[EmbeddedBlock], b: u32, k: u32, on: bool) -> Step
     }
 }
 
+// No moves.
+fn no_moves(alloc: Global) -> BlockMoves
+    ensures { result ≡ [] }
+{
+    BlockMoves::of(Vec::new(alloc))
+}
+
 // The step that keeps a list at vertex v.
-fn arranging(alloc: Global, lists: &KeptLists, v: u32, list: Numbers) -> Result<Step, AllocError>
+fn arranging(
+    alloc: Global,
+    lists: &KeptLists,
+    v: u32,
+    list: Numbers,
+) -> Result<Step, AllocError>
     ensures { (views : List BlockView) → IfOk result
         (LeadsTo views lists.now (kept_arranged views lists.now v list)) }
 {
-    Ok(Step::Moves {
-        forth: BlockMoves::of(Vec::new(alloc)),
-        back: BlockMoves::of(Vec::new(alloc)),
-        cuts: lists.changed(alloc, v, list)?,
-    })
+    let cuts = lists.changed(alloc, v, list)?;
+    let forth = no_moves(alloc);
+    let back = no_moves(alloc);
+    Ok(Step::Moves { forth, back, cuts })
 }
 
 // ---- steps carried out
 
 // The lists that the step before the cursor sets when it is taken back.
 fn earlier_lists(alloc: Global, log: &UndoLog) -> Result<Vec<(u32, Arrangement)>, AllocError>
-    ensures { (s : Step) → IsStepAt log.now.steps (log.now.cursor - 1) s
+    ensures { (i : ℕ) (s : Step) → i + 1 ≡ log.now.cursor → IsStepAt log.now.steps i s
         → IfOk result (λ lists. lists.items ≡ lists_before s) }
 {
     match log.step_before() {

@@ -87,8 +87,8 @@ impl KeptLists {
     pub fn set(&mut self, lists: Vec<(u32, Arrangement)>)
         ensures { self.new ≡ lists_set lists.items self.old }
     {
-        for (v, list) in lists {
-            self.set_one(v, list);
+        for pair in lists {
+            self.set_one(pair.0, pair.1);
         }
     }
 

@@ -1,5 +1,5 @@
 // `regroup V EDGES`: another arrangement at a cut vertex.
-ghost use Rattle.std.specs.Prelude.{◌≡◌, ◌↔◌, ◌<◌, true, [], length, map, slice_index_or, IfOk, OnErr, IsTrue, IsPermutation};
+ghost use Rattle.std.specs.Prelude.{◌≡◌, ◌↔◌, ◌<◌, true, false, [], length, map, slice_index_or, IfOk, OnErr, MatchOption, IsTrue, IsPermutation};
 ghost use Rattle.permutations.specs.Members.{is_member, place_of};
 ghost use Rattle.multigraph.specs.Graph.{incident_edges};
 ghost use Rattle.multigraph.specs.Part.{Rises};
@@ -8,7 +8,9 @@ ghost use Rattle.spqr_session.specs.State.{State, is_planar_component};
 ghost use Rattle.spqr_session.specs.Embedded.{view_entry};
 ghost use Rattle.spqr_session.specs.Scene.{setting_on};
 ghost use Rattle.spqr_session.specs.Board.{state_on, IsCarried, BelongTogether};
-ghost use Rattle.spqr_session.specs.Wholes.{AreEntries, IsElsewhere, IsRegrouping, IsRegrouped};
+ghost use Rattle.whole_embed.specs.Component.{IsComponentInPlane};
+ghost use Rattle.whole_embed.specs.Cuts.{blocks_in, HavePlanes};
+ghost use Rattle.spqr_session.specs.Wholes.{AreEntries, IsRegroupedIn, IsElsewhere, IsRegrouping, IsRegrouped};
 ghost use Rattle.spqr_session.specs.Commands.Regroup.{component_number, RegroupStep};
 
 use crate::board::Board;
@@ -19,7 +21,7 @@ use crate::wholes::{first_component, is_planar_component};
 use multigraph::{Graph, Numbers};
 use spqr_script::ok_line;
 use std::alloc::{AllocError, Global};
-use whole_embed::{Cuts, RegroupFault, regroup};
+use whole_embed::{Cuts, Member, RegroupFault, regroup};
 
 /// What `regroup` is to do: nothing is changed yet.
 #[derive(Debug, Drop)]
@@ -45,11 +47,11 @@ fn code_elsewhere(alloc: Global, graph: &Graph, v: u32, edges: &[u32]) -> Result
     requires { v < graph.now.vertex_count }
     ensures { IfOk result (IsElsewhere graph.now v edges.now) }
 {
-    if is_ordering(alloc, graph.incident(v), edges)? {
-        Ok(Code::NoCut)
-    } else {
-        Ok(Code::BadRotation(v))
+    let same = is_ordering(alloc, graph.incident(v), edges)?;
+    if same {
+        return Ok(Code::NoCut);
     }
+    Ok(Code::BadRotation(v))
 }
 
 // Whether the vertex is a cut vertex.
@@ -57,17 +59,68 @@ fn is_cut(scene: &Scene, v: u32) -> bool
     requires { Rises scene.now.blocks.cut_vertices }
     ensures { result ≡ is_member v scene.now.blocks.cut_vertices }
 {
-    scene.blocks.cut_vertices().binary_search(&v).is_ok()
+    match scene.blocks.cut_vertices().binary_search(&v) {
+        Ok(_) => true,
+        Err(_) => false,
+    }
+}
+
+// The place of a cut vertex; none where it is not one of the component.
+fn find_cut(cuts: &Cuts, v: u32) -> Option<usize>
+    ensures { MatchOption result (is_member v cuts.now.component.cuts ≡ false)
+        (λ i. (is_member v cuts.now.component.cuts ≡ true) × (i ≡ place_of cuts.now.component.cuts v)) }
+{
+    match cuts.frame().cuts().binary_search(&v) {
+        Ok(i) => Some(i),
+        Err(_) => None,
+    }
+}
+
+// The place of cut vertex v.
+fn place_in(cuts: &Cuts, v: u32) -> usize
+    requires { is_member v cuts.now.component.cuts ≡ true }
+    ensures is { result ≡ place_of cuts.now.component.cuts v }
+    ensures within { result < length cuts.now.component.cuts }
+{
+    find_cut(cuts, v).unwrap()
 }
 
 // The list at cut vertex v.
-fn list_at(alloc: Global, cuts: &Cuts, v: u32) -> Result<Numbers, AllocError>
+fn list_in(alloc: Global, cuts: &Cuts, v: u32) -> Result<Numbers, AllocError>
     requires { is_member v cuts.now.component.cuts ≡ true }
-    ensures { IfOk result (λ list. list ≡ slice_index_or cuts.now.lists (place_of cuts.now.component.cuts v) []) }
+    ensures { IfOk result (λ list. list
+        ≡ slice_index_or cuts.now.lists (place_of cuts.now.component.cuts v) []) }
 {
-    match cuts.frame().cuts().binary_search(&v) {
-        Ok(i) => Ok(Numbers::of(Vec::from_slice(alloc, cuts.list(i))?)),
-        Err(_) => unreachable!(),
+    let i = place_in(cuts, v);
+    let list = Vec::from_slice(alloc, cuts.list(i))?;
+    Ok(Numbers::of(list))
+}
+
+// The list that a component gets at cut vertex v, or why it is none.
+fn arranged_at(
+    alloc: Global,
+    cuts: &mut Cuts,
+    all: &[Member],
+    v: u32,
+    edges: &[u32],
+) -> Result<Regrouping, AllocError>
+    requires vertex { is_member v cuts.old.component.cuts ≡ true }
+    requires component { IsComponentInPlane cuts.old.component (blocks_in all.now) }
+    requires planes { HavePlanes cuts.old.component all.now }
+    ensures { IfOk result (IsRegroupedIn cuts.old.component (blocks_in all.now) v edges.now) }
+{
+    cuts.keeps();
+    match regroup(alloc, cuts, all, v, edges) {
+        Ok(()) => {
+            let list = list_in(alloc, cuts, v)?;
+            Ok(Regrouping::Arranged(list))
+        }
+        Err(fault) => match fault {
+            RegroupFault::BadRotation(w) => Ok(Regrouping::Refused(Code::BadRotation(w))),
+            RegroupFault::BlockOrder(b) => Ok(Regrouping::Refused(Code::BlockOrder(b))),
+            RegroupFault::Cross(b, d) => Ok(Regrouping::Refused(Code::Cross(b, d))),
+            RegroupFault::Memory => Err(AllocError),
+        },
     }
 }
 
@@ -88,16 +141,8 @@ fn plan_at(
     ensures { (s : State) → s.present.entries ≡ map view_entry blocks.now
         → IfOk result (IsRegrouping (setting_on scene.now blocks.now) v edges.now s) }
 {
-    let (mut cuts, all) = first_component(alloc, scene, blocks, c)?;
-    match regroup(alloc, &mut cuts, &all, v, edges) {
-        Ok(()) => Ok(Regrouping::Arranged(list_at(alloc, &cuts, v)?)),
-        Err(fault) => match fault {
-            RegroupFault::BadRotation(w) => Ok(Regrouping::Refused(Code::BadRotation(w))),
-            RegroupFault::BlockOrder(b) => Ok(Regrouping::Refused(Code::BlockOrder(b))),
-            RegroupFault::Cross(b, d) => Ok(Regrouping::Refused(Code::Cross(b, d))),
-            RegroupFault::Memory => Err(AllocError),
-        },
-    }
+    let mut found = first_component(alloc, scene, blocks, c)?;
+    arranged_at(alloc, &mut found.0, &found.1, v, edges)
 }
 
 // What is to be done with a list for a vertex.
@@ -122,10 +167,10 @@ fn plan_regroup(
         return Ok(Regrouping::Refused(Code::NonPlanar));
     }
     if is_cut(scene, v) {
-        plan_at(alloc, scene, blocks, c, v, edges)
-    } else {
-        Ok(Regrouping::Refused(code_elsewhere(alloc, graph, v, edges)?))
+        return plan_at(alloc, scene, blocks, c, v, edges);
     }
+    let code = code_elsewhere(alloc, graph, v, edges)?;
+    Ok(Regrouping::Refused(code))
 }
 
 // Carries out what is to be done.
@@ -136,6 +181,7 @@ fn settle(
     planned: Regrouping,
 ) -> Result<Vec<u8>, AllocError>
     ensures done { IfOk result (λ text. IsRegrouped v planned board.old text.items board.new) }
+    ensures setting { IsCarried board.old.views board.new.views }
     ensures memory { OnErr result (board.new ≡ board.old) }
 {
     match planned {
@@ -164,6 +210,7 @@ pub(crate) fn carry_regroup(
     ensures setting { IsCarried board.old.views board.new.views }
     ensures memory { OnErr result (board.new ≡ board.old) }
 {
+    board.keeps_places();
     let planned = plan_regroup(alloc, scene, board.blocks(), v, edges)?;
     settle(alloc, board, v, planned)
 }

@@ -25,8 +25,8 @@ fn line_of(alloc: Global, scene: &Scene, board: &Board, c: u32) -> Result<Vec<u8
     ensures { IfOk result (λ text. IsWholeTold (setting_on scene.now board.now.views) c
         (family_of (setting_on scene.now board.now.views) (kept_now board.now)) text.items) }
 {
-    let (cuts, all) = present_component(alloc, scene, board, c)?;
-    let lists = whole(alloc, &cuts, &all)?;
+    let found = present_component(alloc, scene, board, c)?;
+    let lists = whole(alloc, &found.0, &found.1)?;
     let mut text = Vec::new(alloc);
     push_whole_line(&mut text, c, &lists)?;
     Ok(text)

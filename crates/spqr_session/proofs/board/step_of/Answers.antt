@@ -23,3 +23,15 @@ returns-clause-leads c = λ e at.
 
 pub returns-clause-plane : goal.returns-clause-plane
 returns-clause-plane c = subst IsInPlane (view-at c.args.blocks.now c.args.b c.index-blocks-b.result c.requires.stands.within c.index-blocks-b.is) c.belongs.ensures
+
+pub returns-in_err-back-clause-plane : goal.returns-in_err-back-clause-plane
+returns-in_err-back-clause-plane c = subst IsInPlane (view-at c.args.blocks.now c.args.b c.index-blocks-b.result c.requires.stands.within c.index-blocks-b.is) c.belongs.ensures
+
+pub returns-in_err-in_block-clause-plane : goal.returns-in_err-in_block-clause-plane
+returns-in_err-in_block-clause-plane c = subst IsInPlane (view-at c.args.blocks.now c.args.b c.index-blocks-b.result c.requires.stands.within c.index-blocks-b.is) c.belongs.ensures
+
+pub returns-in_err-in_block-2-clause-plane : goal.returns-in_err-in_block-2-clause-plane
+returns-in_err-in_block-2-clause-plane c = subst IsInPlane (view-at c.args.blocks.now c.args.b c.index-blocks-b.result c.requires.stands.within c.index-blocks-b.is) c.belongs.ensures
+
+pub returns-in_err-cleared-clause-plane : goal.returns-in_err-cleared-clause-plane
+returns-in_err-cleared-clause-plane c = subst IsInPlane (view-at c.args.blocks.now c.args.b c.index-blocks-b.result c.requires.stands.within c.index-blocks-b.is) c.belongs.ensures

@@ -17,7 +17,7 @@ returns c =
     let seen = subst (λ (o : Outcome). block_view v.tree.part o ≡ v) c.in-Plane.is c.outcome.ensures.view in
     let right = subst (λ (o : Outcome). IsEmbedded v.tree.part o) c.in-Plane.is c.outcome.ensures.right in
     let cuts = c.in_ok-cleared-in-Plane.field-0 in
-    let clears = subst (λ (p : GraphPart). Clears p.vertices c.args.lists.now cuts) (c.part-in-Plane.ensures ∙ ap (λ (x : BlockView). x.tree.part) found) c.in_ok-cleared-in-Plane.ensures in
+    let clears = subst (λ (p : GraphPart). Clears p.vertices c.args.lists.now cuts) (c.part.ensures ∙ ap (λ (x : BlockView). x.tree.part) found) c.in_ok-cleared-in-Plane.ensures in
     plane-leads views c.args.b c.requires.0 can.stands c.args.lists.now cuts clears c.in-Plane.present c.args.plane.now c.in_ok-moves_to-in-Plane.field-0 c.in_ok-moves_to-in-Plane-2.field-0
     (subst (λ (x : BlockView). block_view x.tree.part (Plane c.in-Plane.present) ≡ x) found seen) (subst (λ (x : BlockView). IsEmbedded x.tree.part (Plane c.in-Plane.present)) found right)
     can c.belongs.ensures c.in_ok-moves_to-in-Plane.ensures c.in_ok-moves_to-in-Plane-2.ensures

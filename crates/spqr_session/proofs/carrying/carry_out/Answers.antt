@@ -1,4 +1,4 @@
-use Rattle.std.proofs.Common.{ℕ, List, map, refl, sym, ap, subst, IfOk}
+use Rattle.std.proofs.Common.{◌≡◌, ℕ, List, map, refl, sym, ap, subst, IfOk}
 use Rattle.multigraph.specs.Graph.{Multigraph}
 use Rattle.spqr_script.specs.declared.command.Command.TheVariants as command
 use Rattle.spqr_session.specs.Setting.{Setting}
@@ -15,6 +15,7 @@ use Rattle.spqr_session.specs.Commands.Listing.{IsListing}
 use Rattle.spqr_session.specs.Commands.Longest.{IsLongestAnswer}
 use Rattle.spqr_session.specs.Commands.Draw.{parallel_codes, IsDrawingAnswer}
 use Rattle.spqr_session.specs.Commands.Permute.{PermuteStep}
+use Rattle.spqr_session.specs.Commands.Regroup.{RegroupStep}
 use Rattle.spqr_session.specs.Commands.Walk.{GotoStep}
 use Rattle.spqr_session.specs.Commands.Convert.{ConvertRankStep}
 use Rattle.spqr_session.specs.Products.{CountByProduct, RankByProduct, GotoByProduct, ConvertByProduct}
@@ -199,3 +200,22 @@ pub returns-in-Redo-clause-step : goal.returns-in-Redo-clause-step
 returns-in-Redo-clause-step c =
     let old = c.args.board.now in
     step-is (setting_on c.args.scene.now old.views) (state_on c.args.scene.now old.views old) (state_on c.args.scene.now old.views c.carry_redo.new.board) c.args.command.now command.Redo c.carry_redo.result c.in-Redo.is (c.carry_redo.ensures.step c.args.scene.now)
+
+pub carry_whole-requires : goal.carry_whole-requires
+carry_whole-requires c = record { setting = c.requires.setting; state = c.requires.state }
+
+pub returns-in-Whole-clause-step : goal.returns-in-Whole-clause-step
+returns-in-Whole-clause-step c =
+    let old = c.args.board.now in
+    let s = state_on c.args.scene.now old.views old in
+    step-is (setting_on c.args.scene.now old.views) s s c.args.command.now (command.Whole c.in-Whole.c) c.carry_whole.result c.in-Whole.is c.carry_whole.ensures
+
+pub carry_regroup-requires : goal.carry_regroup-requires
+carry_regroup-requires c = record { setting = c.requires.setting; state = c.requires.state }
+
+pub returns-in-Regroup-clause-step : goal.returns-in-Regroup-clause-step
+returns-in-Regroup-clause-step c =
+    let old = c.args.board.now in
+    let edges : c.as_slice-in-Regroup.result.now ≡ c.in-Regroup.edges = c.as_slice-in-Regroup.ensures in
+    step-is (setting_on c.args.scene.now old.views) (state_on c.args.scene.now old.views old) (state_on c.args.scene.now old.views c.carry_regroup.new.board) c.args.command.now (command.Regroup c.in-Regroup.v c.in-Regroup.edges) c.carry_regroup.result c.in-Regroup.is
+    (subst (λ (l : List ℕ). IfOk c.carry_regroup.result (λ text. RegroupStep (setting_on c.args.scene.now old.views) c.in-Regroup.v l (state_on c.args.scene.now old.views old) text.items (state_on c.args.scene.now old.views c.carry_regroup.new.board))) edges c.carry_regroup.ensures.step)

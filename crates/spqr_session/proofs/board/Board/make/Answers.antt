@@ -18,7 +18,7 @@ carry-requires c =
     let step = c.in_ok-step.step in
     let can = subst (λ (v : BoardView). CanMake v.views b moves) (sym c.self.view_is) c.requires in
     let e = can.entry in
-    let new = record { rotation = all_moved (view_at views b).tree.nodes moves e.rotation; locks = e.locks } in
+    let new : Embedding = record { rotation = all_moved (view_at views b).tree.nodes moves e.rotation; locks = e.locks } in
     let made = subst (λ (l : List BlockView). (x : Embedding) → StandsAt l b x → LeadsTo l s.lists (kept_changed l s.lists b (record { rotation = all_moved (view_at l b).tree.nodes moves x.rotation; locks = x.locks })) step) c.deref.ensures.value c.in_ok-step.ensures.leads in
     (kept_changed views s.lists b new, subst (λ (v : BoardView). LeadsTo v.views v.lists (kept_changed views s.lists b new) step) c.self.view_is (made e can.stands))
 
@@ -31,7 +31,7 @@ returns-clause-done c =
     let step = c.in_ok-step.step in
     let can = subst (λ (v : BoardView). CanMake v.views b moves) (sym c.self.view_is) c.requires in
     let e = can.entry in
-    let new = record { rotation = all_moved (view_at views b).tree.nodes moves e.rotation; locks = e.locks } in
+    let new : Embedding = record { rotation = all_moved (view_at views b).tree.nodes moves e.rotation; locks = e.locks } in
     let made = subst (λ (l : List BlockView). (x : Embedding) → StandsAt l b x → LeadsTo l s.lists (kept_changed l s.lists b (record { rotation = all_moved (view_at l b).tree.nodes moves x.rotation; locks = x.locks })) step) c.deref.ensures.value c.in_ok-step.ensures.leads in
     let leads = subst (λ (v : BoardView). LeadsTo v.views v.lists (kept_changed views s.lists b new) step) c.self.view_is (made e can.stands) in
     let right = subst (λ (l : List BlockView). IsInPlane (view_at l b)) c.deref.ensures.value c.in_ok-step.ensures.plane e can.stands.entry in

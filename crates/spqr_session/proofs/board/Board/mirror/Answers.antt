@@ -33,7 +33,7 @@ invariant_of-self-2 c =
     let lead = subst (λ (v : BlockView). LeadToMirror v.tree.nodes e.rotation moves) there (c.in_ok-forth.ensures e (ap view_entry there ∙ at.entry)) in
     let w = c.index_mut.result.now in
     let found = view-at views b w at.within c.index_mut.ensures.value in
-    let new = record { rotation = mirror_image e.rotation; locks = e.locks } in
+    let new : Embedding = record { rotation = mirror_image e.rotation; locks = e.locks } in
     let is = c.mirror.ensures ∙ ap (λ (o : Option Embedding). record { tree = w.tree; certificate = w.certificate; entry = entry_mirrored o }) (ap view_entry found ∙ at.entry) in
     let step = c.in_ok-step.step in
     let made = subst (λ (l : List BlockView). (x : Embedding) → StandsAt l b x → LeadsTo l s.lists (kept_changed l s.lists b (record { rotation = all_moved (view_at l b).tree.nodes moves x.rotation; locks = x.locks })) step) c.deref.ensures.value c.in_ok-step.ensures.leads in
@@ -54,7 +54,7 @@ returns-clause-done c =
     let lead = subst (λ (v : BlockView). LeadToMirror v.tree.nodes e.rotation moves) there (c.in_ok-forth.ensures e (ap view_entry there ∙ at.entry)) in
     let w = c.index_mut.result.now in
     let found = view-at views b w at.within c.index_mut.ensures.value in
-    let new = record { rotation = mirror_image e.rotation; locks = e.locks } in
+    let new : Embedding = record { rotation = mirror_image e.rotation; locks = e.locks } in
     let is = c.mirror.ensures ∙ ap (λ (o : Option Embedding). record { tree = w.tree; certificate = w.certificate; entry = entry_mirrored o }) (ap view_entry found ∙ at.entry) in
     let step = c.in_ok-step.step in
     let made = subst (λ (l : List BlockView). (x : Embedding) → StandsAt l b x → LeadsTo l s.lists (kept_changed l s.lists b (record { rotation = all_moved (view_at l b).tree.nodes moves x.rotation; locks = x.locks })) step) c.deref.ensures.value c.in_ok-step.ensures.leads in

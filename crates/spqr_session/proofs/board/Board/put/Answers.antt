@@ -1,6 +1,7 @@
 use Rattle.std.proofs.Common.{List, ℕ, Option, sym, ap, ◌∙◌, subst}
 use Rattle.multigraph.specs.Graph.{Multigraph}
 use Rattle.faces.specs.Euler.{IsPlaneSystem}
+use Rattle.spqr_session.specs.State.{Embedding}
 use Rattle.spqr_session.specs.Embedded.{BlockView, view_entry}
 use Rattle.spqr_session.specs.History.{lists_set}
 use Rattle.spqr_session.specs.Board.{BoardView, CanReplace, LeadsTo, kept_changed}
@@ -19,7 +20,7 @@ invariant_of-self-2 c =
     let s = c.self.inside in
     let views = s.blocks.items in
     let b = c.args.b in
-    let e = record { rotation = c.args.plane.rotation; locks = c.args.plane.locks } in
+    let e : Embedding = record { rotation = c.args.plane.rotation; locks = c.args.plane.locks } in
     let step = c.in_ok-step.step in
     let can = subst (λ (v : BoardView). CanReplace v.views b c.requires.0 c.args.plane) (sym c.self.view_is) c.requires.1 in
     let leads = subst (λ (l : List BlockView). LeadsTo l s.lists (kept_changed l s.lists b e) step) c.deref.ensures.value c.in_ok-step.ensures in
@@ -32,7 +33,7 @@ returns-clause-done c =
     let s = c.self.inside in
     let views = s.blocks.items in
     let b = c.args.b in
-    let e = record { rotation = c.args.plane.rotation; locks = c.args.plane.locks } in
+    let e : Embedding = record { rotation = c.args.plane.rotation; locks = c.args.plane.locks } in
     let step = c.in_ok-step.step in
     let can = subst (λ (v : BoardView). CanReplace v.views b c.requires.0 c.args.plane) (sym c.self.view_is) c.requires.1 in
     let leads = subst (λ (l : List BlockView). LeadsTo l s.lists (kept_changed l s.lists b e) step) c.deref.ensures.value c.in_ok-step.ensures in

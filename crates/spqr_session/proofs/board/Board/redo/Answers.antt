@@ -1,7 +1,8 @@
-use Rattle.std.proofs.Common.{◌≡◌, ◌-◌, List, ℕ, Option, ap, ◌∙◌, subst, arith}
+use Rattle.std.proofs.Common.{◌≡◌, ◌+◌, List, map, ℕ, Option, ap, ◌∙◌, subst, arith}
 use Rattle.undo_log.specs.History.{IsStepAt, WentOn}
-use Rattle.spqr_session.specs.History.{lists_set}
-use Rattle.spqr_session.specs.Board.{BoardView, board_view, IsRedone}
+use Rattle.spqr_session.specs.Embedded.{view_tree}
+use Rattle.spqr_session.specs.History.{lists_set, redone}
+use Rattle.spqr_session.specs.Board.{kept_on, BoardView, board_view, IsRedone}
 use Rattle.spqr_session.proofs.Boards.{board-on, board-redone}
 use Rattle.spqr_session.proofs.board.Board.redo.Goals as goal
 
@@ -11,5 +12,5 @@ invariant_of-self c =
     let step = c.in-Ok.step.now in
     let passed : WentOn s.log step c.redo.follows.lender-at-none = rw c.in-Ok.is at c.redo.follows.holds-at-none in
     let set = c.set.ensures ∙ ap (λ (ps : List (ℕ × Option (List ℕ))). lists_set ps s.lists) (c.in_ok-lists.ensures step (passed.passed)) in
-    let same = λ i. record { entries = c.carry_forth.ensures.entries i; lists = set i } in
+    let same : kept_on c.carry_forth.new.blocks.items c.set.new.self ≡ redone (map view_tree s.blocks.items) step (kept_on s.blocks.items s.lists) = λ i. record { entries = c.carry_forth.ensures.entries i; lists = set i } in
     board-on s.blocks.items c.carry_forth.new.blocks.items s.lists c.set.new.self s.log c.redo.follows.lender-at-none step c.carry_forth.ensures.carried c.self.invariant passed same

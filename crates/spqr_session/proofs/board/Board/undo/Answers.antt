@@ -1,7 +1,8 @@
-use Rattle.std.proofs.Common.{◌≡◌, ◌-◌, List, ℕ, Option, ap, ◌∙◌, subst, arith}
+use Rattle.std.proofs.Common.{◌≡◌, ◌+◌, List, map, ℕ, Option, ap, ◌∙◌, subst, arith}
 use Rattle.undo_log.specs.History.{IsStepAt, WentBack}
-use Rattle.spqr_session.specs.History.{lists_set}
-use Rattle.spqr_session.specs.Board.{BoardView, board_view, IsUndone}
+use Rattle.spqr_session.specs.Embedded.{view_tree}
+use Rattle.spqr_session.specs.History.{lists_set, undone}
+use Rattle.spqr_session.specs.Board.{kept_on, BoardView, board_view, IsUndone}
 use Rattle.spqr_session.proofs.Boards.{board-back, board-undone}
 use Rattle.spqr_session.proofs.board.Board.undo.Goals as goal
 
@@ -10,6 +11,6 @@ invariant_of-self c =
     let s = c.self.inside in
     let step = c.in-Ok.step.now in
     let passed : WentBack s.log step c.undo.follows.lender-at-none = rw c.in-Ok.is at c.undo.follows.holds-at-none in
-    let set = c.set.ensures ∙ ap (λ (ps : List (ℕ × Option (List ℕ))). lists_set ps s.lists) (c.in_ok-lists.ensures step (subst (λ (n : ℕ). IsStepAt s.log.steps n step) (let at : c.undo.follows.lender-at-none.cursor ≡ s.log.cursor - 1 = omega (arith, passed.cursor) in at) passed.passed)) in
-    let same = λ i. record { entries = c.carry_back.ensures.entries i; lists = set i } in
+    let set = c.set.ensures ∙ ap (λ (ps : List (ℕ × Option (List ℕ))). lists_set ps s.lists) (c.in_ok-lists.ensures c.undo.follows.lender-at-none.cursor step passed.cursor passed.passed) in
+    let same : kept_on c.carry_back.new.blocks.items c.set.new.self ≡ undone (map view_tree s.blocks.items) step (kept_on s.blocks.items s.lists) = λ i. record { entries = c.carry_back.ensures.entries i; lists = set i } in
     board-back s.blocks.items c.carry_back.new.blocks.items s.lists c.set.new.self s.log c.undo.follows.lender-at-none step c.carry_back.ensures.carried c.self.invariant passed same

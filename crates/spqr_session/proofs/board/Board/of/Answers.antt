@@ -1,0 +1,5 @@
+use Rattle.spqr_session.proofs.BoardArranged.{board-start}
+use Rattle.spqr_session.proofs.board.Board.of.Goals as goal
+
+pub invariant_of-result : goal.invariant_of-result
+invariant_of-result c = board-start c.args.blocks.items c.args.n c.in_ok-lists.lists c.new-log.result c.new-log.ensures.steps c.new-log.ensures.cursor (c.in_ok-lists.ensures {u = tt}) c.requires

@@ -1,0 +1,7 @@
+-- Those of the changes so far.
+use Rattle.std.proofs.Common.{◌≡◌, map, take}
+use Rattle.spqr_session.specs.History.{list_before}
+use Rattle.spqr_session.proofs.kept.befores.Given as goal
+
+abbrev pub invariant-loop-change : goal.invariant-loop-change
+invariant-loop-change l = l.lists.items ≡ map list_before (take l.change-index l.change-items)
