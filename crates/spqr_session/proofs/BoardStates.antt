@@ -5,7 +5,7 @@ use Rattle.std.proofs.lemmas.List.{length-map}
 use Rattle.spqr_script.specs.Answers.Change.{ok_text}
 use Rattle.spqr_session.specs.Trees.{BlockTree}
 use Rattle.spqr_session.specs.Setting.{Setting}
-use Rattle.spqr_session.specs.State.{Embedding, Family, State, entry_at}
+use Rattle.spqr_session.specs.State.{Embedding, entry_at}
 use Rattle.spqr_session.specs.Kept.{Kept, family_of}
 use Rattle.spqr_session.specs.Codes.{code_text, first_code}
 use Rattle.spqr_session.specs.declared.code.Code.{Code}
@@ -17,7 +17,7 @@ use Rattle.spqr_session.specs.Commands.History.{is_none, undo_ladder, redo_ladde
 use Rattle.spqr_session.specs.Commands.Lock.{with_lock, LocksNode, LockStep}
 use Rattle.spqr_session.specs.Scene.{setting_on}
 use Rattle.spqr_session.specs.declared.scene.Scene.{Scene}
-use Rattle.spqr_session.specs.Board.{BoardView, board_state, kept_now, kept_with_entry, GoesTo, IsUndone, IsRedone, StandsAt, state_on, BelongTogether}
+use Rattle.spqr_session.specs.Board.{BoardView, board_state, kept_with_entry, GoesTo, IsUndone, IsRedone, StandsAt, state_on, BelongTogether}
 use Rattle.spqr_session.proofs.Views.{entries-at, trees-at}
 use Rattle.spqr_session.proofs.Ladders.{rung-hit, rung-missed, refused-first, carried-out}
 use Rattle.spqr_session.proofs.Changes.{NodeFacts, node-facts}

@@ -21,12 +21,12 @@ use Rattle.undo_log.specs.declared.step.CutChange.{CutChange}
 use Rattle.undo_log.specs.declared.step.Step.{Step}
 use Rattle.undo_log.specs.declared.step.Step.TheVariants.{Moves, Lock}
 use Rattle.spqr_session.specs.Trees.{BlockTree, tree_at}
-use Rattle.spqr_session.specs.State.{Embedding, entry_at}
+use Rattle.spqr_session.specs.State.{Embedding}
 use Rattle.spqr_session.specs.Kept.{Kept}
 use Rattle.spqr_session.specs.Embedded.{BlockView, view_tree, view_certificate, view_entry, view_at, block_view, IsEmbedded}
 use Rattle.embed_moves.specs.Made.{Fits}
-use Rattle.spqr_session.specs.Moved.{all_moved, LeadBack}
-use Rattle.spqr_session.specs.History.{entry_moved, entry_locked, as_pair, as_pairs, pairs_moved, node_locked, list_after, list_before, lists_set, lists_cleared, lists_after, entries_redone, walk, redone, undone, steps_before, steps_after, IsMoveOf}
+use Rattle.spqr_session.specs.Moved.{all_moved}
+use Rattle.spqr_session.specs.History.{entry_moved, entry_locked, as_pair, as_pairs, pairs_moved, node_locked, lists_set, lists_cleared, lists_after, entries_redone, walk, redone, undone, steps_before, steps_after, IsMoveOf}
 use Rattle.spqr_session.specs.Commands.History.{is_none}
 use Rattle.spqr_session.specs.Board.{BoardView, kept_on, kept_with_entry, kept_changed, board_view, Clears, GoesTo, IsBoard, IsCarried, IsChangedTo, LeadsTo, StandsAt, CanReplace}
 use Rattle.spqr_session.proofs.Views.{trees-at, entries-at}

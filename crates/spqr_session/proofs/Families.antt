@@ -1,5 +1,5 @@
 -- What is kept of the family on the board when one block is changed, and changes of it taken back.
-use Rattle.std.proofs.Common.{◌≡◌, ℕ, ◌<◌, Bool, false, List, [], ◌∷◌, length, map, slice_index_or, slice_set, Option, None, Some, refl, sym, ap, ◌∙◌, subst, arith, All}
+use Rattle.std.proofs.Common.{◌≡◌, ℕ, ◌<◌, Bool, false, List, [], ◌∷◌, length, map, slice_index_or, slice_set, Option, None, Some, refl, sym, ap, ◌∙◌, arith, All}
 use Rattle.std.proofs.lemmas.List.{map-set, length-set, set-set, set-get_or, get_or-set_same}
 use Rattle.std.proofs.lemmas.List.Elements.{All-nil, All-cons, All-head, All-tail}
 use Rattle.std.proofs.Math.Seq.{map-set_same}
@@ -9,9 +9,8 @@ use Rattle.embed_moves.specs.Made.{Fits}
 use Rattle.spqr_session.specs.Trees.{BlockTree, tree_at}
 use Rattle.spqr_session.specs.State.{Embedding}
 use Rattle.spqr_session.specs.Embedded.{BlockView, view_tree, view_certificate, view_entry, no_view, view_at}
-use Rattle.spqr_session.specs.Moved.{moved, all_moved}
+use Rattle.spqr_session.specs.Moved.{all_moved}
 use Rattle.spqr_session.specs.History.{entry_moved, entry_locked, pairs_moved, node_locked, IsMoveOf}
-use Rattle.spqr_session.proofs.Views.{trees-at}
 
 module _ (views : List BlockView) (b : ℕ) (v : BlockView) where
   -- trees and certificates stay where those of the block do

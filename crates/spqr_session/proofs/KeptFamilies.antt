@@ -1,16 +1,13 @@
 -- The families of what is kept: after a change of a block, a lock, and at the start; and that a change of a block leads from a family to a
 -- family.
-use Rattle.std.proofs.Common.{◌≡◌, ◌≢◌, ℕ, zero, suc, ◌<◌, inl, inr, Bool, true, false, List, [], ◌∷◌, ◌++◌, length, map, replicate, slice_index, slice_index_or, slice_set, Option, None, Some, Contains, refl, sym, ap, ap₂, ◌∙◌, subst, arith}
+use Rattle.std.proofs.Common.{◌≡◌, ℕ, zero, suc, ◌<◌, inl, inr, Bool, true, false, List, [], ◌∷◌, ◌++◌, length, map, replicate, slice_index, slice_index_or, slice_set, Option, None, Some, Contains, refl, sym, ap, ap₂, ◌∙◌, subst, arith}
 use Rattle.std.specs.Prelude.{if◌then◌else◌}
 use Rattle.std.proofs.Math.Path.{fun_ext}
-use Rattle.std.proofs.lemmas.Bool.{cases_Bool, cases_eq, cases_lt, cond-true, cond-false, true≢false}
-use Rattle.std.proofs.lemmas.List.{get_or-map, length-map, length-set, map-append, get_or-set_same, get_or-set_other, get_or-replicate, get_or_past, length-replicate}
+use Rattle.std.proofs.lemmas.Bool.{cases_Bool, cases_eq, cond-true, cond-false}
+use Rattle.std.proofs.lemmas.List.{get_or-map, length-map, length-set, map-append, get_or-set_same, get_or-set_other}
 use Rattle.permutations.specs.Members.{is_member}
-use Rattle.permutations.proofs.Arrangements.{member-at}
 use Rattle.multigraph.specs.Graph.{numbers_below}
-use Rattle.multigraph.specs.Part.{IsNumbered}
 use Rattle.multigraph.proofs.Below.{length-numbers_below, get_or-numbers_below}
-use Rattle.rotations.specs.Rotation.{IsRotationSystem}
 use Rattle.faces.specs.Euler.{IsPlaneSystem}
 use Rattle.arrangements.specs.Arranged.{first_arrangement, arrangements_at}
 use Rattle.whole_embed.specs.Component.{Component, BlockInPlane, IsComponentInPlane}
@@ -51,9 +48,9 @@ module _ (trees : List BlockTree) (es : List (Option Embedding)) (b : ℕ) (old 
   pub orders-same : block_order (blocks_with trees (slice_set es b (Some new))) v ≡ block_order (blocks_with trees es) v
   orders-same = fun_ext (λ d. elim (cases_eq d b) [
     | inl e ↦ subst (λ (z : ℕ). block_order (blocks_with trees (slice_set es b (Some new))) v z ≡ block_order (blocks_with trees es) v z) (sym e) (
-          ap (λ (o : Option Embedding). outer_at (block_with_entry (tree_at trees b) o).part (block_with_entry (tree_at trees b) o).rotation v) (get_or-set_same es b (Some new) None l)
-          ∙ same
-          ∙ sym (ap (λ (o : Option Embedding). outer_at (block_with_entry (tree_at trees b) o).part (block_with_entry (tree_at trees b) o).rotation v) at))
+        ap (λ (o : Option Embedding). outer_at (block_with_entry (tree_at trees b) o).part (block_with_entry (tree_at trees b) o).rotation v) (get_or-set_same es b (Some new) None l)
+        ∙ same
+        ∙ sym (ap (λ (o : Option Embedding). outer_at (block_with_entry (tree_at trees b) o).part (block_with_entry (tree_at trees b) o).rotation v) at))
     | inr n ↦ ap (λ (o : Option Embedding). outer_at (block_with_entry (tree_at trees d) o).part (block_with_entry (tree_at trees d) o).rotation v) (get_or-set_other es b d (Some new) None n)
   ])
 

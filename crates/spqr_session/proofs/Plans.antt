@@ -10,7 +10,7 @@ use Rattle.spqr_session.specs.Scene.{setting_on}
 use Rattle.spqr_session.specs.declared.scene.Scene.{Scene}
 use Rattle.spqr_session.specs.State.{Embedding, State, entry_at}
 use Rattle.spqr_session.specs.Kept.{Kept, family_of}
-use Rattle.spqr_session.specs.Embedded.{BlockView, view_tree, view_certificate, view_entry, view_at, no_view}
+use Rattle.spqr_session.specs.Embedded.{BlockView, view_tree, view_entry, view_at}
 use Rattle.spqr_session.specs.History.{lists_cleared}
 use Rattle.spqr_session.specs.Board.{BoardView, board_state, kept_with_entry, kept_changed, GoesTo, IsChangedTo, IsCarried, StandsAt, state_on, BelongTogether}
 use Rattle.spqr_session.specs.Codes.{Ladder, rises_above, first_code}

@@ -13,7 +13,7 @@ use Rattle.spqr_session.specs.Setting.{Setting, IsSetting}
 use Rattle.spqr_session.specs.State.{Embedding, IsEntry, IsStartEntry, IsFamily}
 use Rattle.spqr_session.specs.Embedded.{BlockView, view_tree, view_certificate, view_entry, view_at, setting_of, IsStartBlock, AreStartBlocks}
 use Rattle.spqr_session.specs.Board.{board_state}
-use Rattle.spqr_session.specs.Machine.{Machine, IsStarted}
+use Rattle.spqr_session.specs.Machine.{IsStarted}
 use Rattle.spqr_session.proofs.Views.{trees-at, certificates-at, entries-at, start-trees, start-certificates}
 use Rattle.spqr_session.proofs.KeptFamilies.{start-right, start-first}
 

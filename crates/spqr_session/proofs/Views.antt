@@ -1,13 +1,12 @@
 -- Lists of blocks and of what is seen of them: trees, certificates, entries; and the start of a session.
 use Rattle.std.proofs.Common.{◌≡◌, ℕ, zero, suc, ◌<◌, List, [], ◌∷◌, length, map, slice_index_or, Option, None, refl, sym, ◌∙◌, subst}
 use Rattle.std.proofs.lemmas.List.{length-map}
-use Rattle.std.proofs.lemmas.List.Elements.{All-nil}
 use Rattle.multigraph.specs.Graph.{Multigraph}
-use Rattle.blocks.specs.Blocks.{BlockStructure, IsBlockStructure, block_at}
+use Rattle.blocks.specs.Blocks.{block_at}
 use Rattle.kuratowski.specs.declared.subdivision.Subdivision.{Subdivision}
 use Rattle.spqr_session.specs.Trees.{BlockTree, tree_at, IsBlockTree, AreBlockTrees}
 use Rattle.spqr_session.specs.Certificates.{certificate_at, IsCertificate, AreCertificates}
-use Rattle.spqr_session.specs.State.{Embedding, Family}
+use Rattle.spqr_session.specs.State.{Family}
 use Rattle.spqr_session.specs.Embedded.{BlockView, view_tree, view_certificate, view_entry, no_view, view_at, AreStartBlocks}
 use Rattle.spqr_session.specs.Machine.{Machine, IsStarted, IsMachine}
 

@@ -1,5 +1,5 @@
 -- A block with its tree, and its embedding or its certificate, as contracts see it.
-use Rattle.std.specs.Prelude.{◌≡◌, ℕ, ◌<◌, Bool, false, List, [], length, map, slice_index_or, Option, None, Some, ⊤}
+use Rattle.std.specs.Prelude.{◌≡◌, ℕ, ◌<◌, Bool, false, List, length, map, slice_index_or, Option, None, Some, ⊤}
 use Rattle.blocks.specs.Blocks.{BlockStructure, block_at}
 use Rattle.gml_text.specs.Document.{Document}
 use Rattle.gml_graph.specs.Named.{NamedGraph}

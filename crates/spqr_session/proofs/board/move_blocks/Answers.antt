@@ -1,11 +1,10 @@
-use Rattle.std.proofs.Common.{◌≡◌, ◌+◌, ◌<◌, ℕ, List, length, map, drop, ap, sym, ◌∙◌, subst, arith, [], ◌∷◌, All}
-use Rattle.std.proofs.lemmas.List.{length-map}
+use Rattle.std.proofs.Common.{◌+◌, ℕ, List, map, drop, ap, sym, ◌∙◌, subst, arith, [], ◌∷◌, All}
 use Rattle.std.proofs.lemmas.List.Elements.{All-head, All-tail}
 use Rattle.skeletons.specs.Moves.{Move}
 use Rattle.skel_embed.specs.Values.{as_move}
 use Rattle.embed_moves.specs.Made.{Fits}
 use Rattle.spqr_session.specs.Trees.{BlockTree, tree_at}
-use Rattle.spqr_session.specs.Embedded.{BlockView, view_tree, view_certificate, view_entry}
+use Rattle.spqr_session.specs.Embedded.{BlockView, view_tree, view_entry}
 use Rattle.spqr_session.specs.History.{as_pair, as_pairs, pairs_moved, IsMoveOf}
 use Rattle.spqr_session.proofs.Views.{trees-at}
 use Rattle.spqr_session.proofs.BlockTrees.{view-at}

@@ -1,4 +1,4 @@
-use Rattle.std.proofs.Common.{◌∙◌, refl, ap, subst, sym}
+use Rattle.std.proofs.Common.{◌∙◌, refl, ap, subst}
 use Rattle.multigraph.specs.Part.{GraphPart}
 use Rattle.skel_embed.specs.Values.{as_moves}
 use Rattle.spqr_session.specs.Moved.{all_moved, LeadBack}

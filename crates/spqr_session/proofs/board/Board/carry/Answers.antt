@@ -1,5 +1,4 @@
 use Rattle.std.proofs.Common.{List, map, sym, ap, ◌∙◌, subst, ℕ, Option}
-use Rattle.spqr_session.specs.Kept.{Kept}
 use Rattle.spqr_session.specs.Embedded.{view_tree}
 use Rattle.spqr_session.specs.History.{lists_set, IsStepOf}
 use Rattle.spqr_session.specs.Board.{BoardView, LeadsTo}

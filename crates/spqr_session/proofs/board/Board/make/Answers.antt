@@ -1,4 +1,4 @@
-use Rattle.std.proofs.Common.{◌≡◌, List, ℕ, Option, sym, ap, ◌∙◌, subst}
+use Rattle.std.proofs.Common.{List, sym, subst}
 use Rattle.skel_embed.specs.Values.{as_moves}
 use Rattle.spqr_session.specs.State.{Embedding}
 use Rattle.spqr_session.specs.Moved.{all_moved}

@@ -1,4 +1,4 @@
-use Rattle.std.proofs.Common.{◌≡◌, List, ℕ, Option, sym, ap, ◌∙◌, subst, slice_set}
+use Rattle.std.proofs.Common.{List, ℕ, Option, sym, ap, ◌∙◌, subst}
 use Rattle.rotations.specs.Runs.{mirror_image}
 use Rattle.faces.proofs.MapMirror.{mirror-system, mirror-image-plane}
 use Rattle.skel_embed.specs.Values.{as_moves}
@@ -6,7 +6,7 @@ use Rattle.spqr_session.specs.State.{Embedding}
 use Rattle.spqr_session.specs.Moved.{all_moved, LeadToMirror}
 use Rattle.spqr_session.specs.History.{entry_mirrored, lists_set}
 use Rattle.spqr_session.specs.Embedded.{BlockView, view_at, view_entry, IsInPlane}
-use Rattle.spqr_session.specs.Board.{BoardView, StandsAt, CanMake, LeadsTo, kept_changed, board_view, IsMirroredAt}
+use Rattle.spqr_session.specs.Board.{BoardView, StandsAt, CanMake, LeadsTo, kept_changed}
 use Rattle.spqr_session.proofs.BlockTrees.{view-at}
 use Rattle.spqr_session.proofs.Boards.{noted-added}
 use Rattle.spqr_session.proofs.BoardSteps.{put-right, put-changed}

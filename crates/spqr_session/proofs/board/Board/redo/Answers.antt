@@ -1,9 +1,9 @@
-use Rattle.std.proofs.Common.{◌≡◌, ◌+◌, List, map, ℕ, Option, ap, ◌∙◌, subst, arith}
-use Rattle.undo_log.specs.History.{IsStepAt, WentOn}
+use Rattle.std.proofs.Common.{◌≡◌, List, map, ℕ, Option, ap, ◌∙◌}
+use Rattle.undo_log.specs.History.{WentOn}
 use Rattle.spqr_session.specs.Embedded.{view_tree}
 use Rattle.spqr_session.specs.History.{lists_set, redone}
-use Rattle.spqr_session.specs.Board.{kept_on, BoardView, board_view, IsRedone}
-use Rattle.spqr_session.proofs.Boards.{board-on, board-redone}
+use Rattle.spqr_session.specs.Board.{kept_on}
+use Rattle.spqr_session.proofs.Boards.{board-on}
 use Rattle.spqr_session.proofs.board.Board.redo.Goals as goal
 
 pub invariant_of-self : goal.invariant_of-self

@@ -1,9 +1,9 @@
-use Rattle.std.proofs.Common.{◌≡◌, ◌+◌, List, map, ℕ, Option, ap, ◌∙◌, subst, arith}
-use Rattle.undo_log.specs.History.{IsStepAt, WentBack}
+use Rattle.std.proofs.Common.{◌≡◌, List, map, ℕ, Option, ap, ◌∙◌}
+use Rattle.undo_log.specs.History.{WentBack}
 use Rattle.spqr_session.specs.Embedded.{view_tree}
 use Rattle.spqr_session.specs.History.{lists_set, undone}
-use Rattle.spqr_session.specs.Board.{kept_on, BoardView, board_view, IsUndone}
-use Rattle.spqr_session.proofs.Boards.{board-back, board-undone}
+use Rattle.spqr_session.specs.Board.{kept_on}
+use Rattle.spqr_session.proofs.Boards.{board-back}
 use Rattle.spqr_session.proofs.board.Board.undo.Goals as goal
 
 pub invariant_of-self : goal.invariant_of-self

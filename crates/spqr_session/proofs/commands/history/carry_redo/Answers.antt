@@ -5,7 +5,7 @@ use Rattle.spqr_session.specs.Scene.{setting_on}
 use Rattle.spqr_session.specs.Board.{state_on}
 use Rattle.spqr_session.specs.Commands.History.{is_none, RedoStep}
 use Rattle.spqr_session.proofs.Steps.{text-map}
-use Rattle.spqr_session.proofs.BoardStates.{redo-refused, redo-done, nothing-there, something-there}
+use Rattle.spqr_session.proofs.BoardStates.{redo-refused, nothing-there}
 use Rattle.spqr_session.proofs.commands.history.carry_redo.Goals as goal
 
 pub returns-then-not-can_redo-clause-step : goal.returns-then-not-can_redo-clause-step

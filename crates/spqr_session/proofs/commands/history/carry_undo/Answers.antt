@@ -5,7 +5,7 @@ use Rattle.spqr_session.specs.Scene.{setting_on}
 use Rattle.spqr_session.specs.Board.{state_on}
 use Rattle.spqr_session.specs.Commands.History.{is_none, UndoStep}
 use Rattle.spqr_session.proofs.Steps.{text-map}
-use Rattle.spqr_session.proofs.BoardStates.{undo-refused, undo-done, nothing-there, something-there}
+use Rattle.spqr_session.proofs.BoardStates.{undo-refused, nothing-there}
 use Rattle.spqr_session.proofs.commands.history.carry_undo.Goals as goal
 
 pub returns-then-not-can_undo-clause-step : goal.returns-then-not-can_undo-clause-step

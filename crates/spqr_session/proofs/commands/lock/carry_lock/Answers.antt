@@ -1,4 +1,4 @@
-use Rattle.std.proofs.Common.{◌≡◌, ℕ, List, map, None, Some, Option, sym, subst}
+use Rattle.std.proofs.Common.{◌≡◌, ℕ, List, map, None, Some, Option}
 use Rattle.spqr_session.specs.State.{State}
 use Rattle.spqr_session.specs.Embedded.{BlockView, view_tree, view_entry}
 use Rattle.spqr_session.specs.Scene.{setting_on}
@@ -7,8 +7,8 @@ use Rattle.spqr_session.specs.BlockCodes.{node_ladder}
 use Rattle.pair_split.specs.Kinds.{has_choices}
 use Rattle.spqr_session.specs.Planned.{IsVerdict}
 use Rattle.spqr_session.specs.declared.code.Code.{Code}
-use Rattle.spqr_session.specs.Board.{BoardView, IsCarried, state_on}
-use Rattle.spqr_session.specs.Commands.Lock.{with_lock, LockStep}
+use Rattle.spqr_session.specs.Board.{BoardView, state_on}
+use Rattle.spqr_session.specs.Commands.Lock.{LockStep}
 use Rattle.spqr_session.proofs.Steps.{text-map}
 use Rattle.spqr_session.proofs.Plans.{seen_state}
 use Rattle.spqr_session.proofs.BoardStates.{lock-refused, lock-stands, lock-node, lock-done}

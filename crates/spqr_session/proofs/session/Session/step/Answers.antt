@@ -1,7 +1,5 @@
-use Rattle.std.proofs.Common.{ap, ◌∙◌, subst, IfOk}
+use Rattle.std.proofs.Common.{ap, ◌∙◌}
 use Rattle.spqr_session.specs.Machine.{Machine}
-use Rattle.spqr_session.specs.Board.{board_state}
-use Rattle.spqr_session.specs.Step.{Step}
 use Rattle.spqr_session.proofs.Sessions.{setting-kept, stepped-machine, memory-machine, step-seen}
 use Rattle.spqr_session.proofs.session.Session.step.Goals as goal
 
