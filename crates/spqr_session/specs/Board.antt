@@ -163,8 +163,7 @@ pub record IsMirroredAt (before : BoardView) (b : ℕ) (after : BoardView) : Typ
 abbrev pub state_on : Scene → List BlockView → BoardView → State
 state_on scene views board = board_state (setting_on scene views) board
 
--- a scene and a board belong together: they are a setting, and a state on it, and the board has a list for each vertex, or none
+-- a scene and a board belong together: they are a setting, and a state on it
 pub record BelongTogether (scene : Scene) (board : BoardView) : Type 0 where
   pub setting : IsSetting (setting_on scene board.views)
   pub state : IsState (setting_on scene board.views) (state_on scene board.views board)
-  pub lists : length board.lists ≡ scene.named.graph.vertex_count
