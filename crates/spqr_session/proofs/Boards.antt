@@ -8,8 +8,9 @@ use Rattle.undo_log.specs.declared.step.Step.{Step}
 use Rattle.spqr_session.specs.Trees.{BlockTree}
 use Rattle.spqr_session.specs.Kept.{Kept}
 use Rattle.spqr_session.specs.Embedded.{BlockView, view_tree}
-use Rattle.spqr_session.specs.History.{walk, IsBetween, redone, undone, steps_before, steps_after, IsStepOf, IsHistory}
-use Rattle.spqr_session.specs.Board.{kept_on, board_view, IsBoard, IsCarried, GoesTo, LeadsTo, IsUndone, IsRedone}
+use Rattle.spqr_session.specs.History.{walk, IsBetween, redone, undone, lists_before, lists_after, steps_before, steps_after, IsStepOf, IsHistory}
+use Rattle.spqr_session.specs.Board.{kept_on, kept_now, board_view, HavePlaces, IsBoard, IsCarried, GoesTo, LeadsTo, IsUndone, IsRedone}
+use Rattle.spqr_session.proofs.ListsSet.{set-length}
 use Rattle.spqr_session.proofs.Walks.{step-back, step-forth, step-new, walk-new}
 
 -- a step was added behind those before the cursor, which is behind it
@@ -110,12 +111,15 @@ module _ (trees : List BlockTree) where
 
 -- what becomes of a board
 module _ (views other : List BlockView) (lists new_lists : List (Option (List ℕ))) (old new : UndoHistory) (s : Step) (c : IsCarried views other) (h : IsBoard views lists old) where
-  rights : IsHistory (map view_tree views) (kept_on other new_lists) new → IsBoard other new_lists new
-  rights i = subst (λ (l : List BlockTree). IsHistory l (kept_on other new_lists) new) (sym c.trees) i
+  rights : IsHistory (map view_tree views) (kept_on other new_lists) new → length new_lists ≡ length lists → IsBoard other new_lists new
+  rights i n = (
+    subst (λ (l : List BlockTree). IsHistory l (kept_on other new_lists) new) (sym c.trees) i,
+    subst (λ (l : List BlockTree). HavePlaces l (length new_lists)) (sym c.trees) (subst (HavePlaces (map view_tree views)) (sym n) h.1),
+  )
 
   module _ (w : WentBack old s new) (e : kept_on other new_lists ≡ undone (map view_tree views) s (kept_on views lists)) where
     pub board-back : IsBoard other new_lists new
-    board-back = rights (subst (λ (k : Kept). IsHistory (map view_tree views) k new) (sym e) (history-back (map view_tree views) (kept_on views lists) old new s h w))
+    board-back = rights (subst (λ (k : Kept). IsHistory (map view_tree views) k new) (sym e) (history-back (map view_tree views) (kept_on views lists) old new s h.0 w)) (ap (λ (k : Kept). length k.lists) e ∙ set-length (lists_before s) lists)
 
     pub board-undone : IsUndone (board_view views lists old) (board_view other new_lists new)
     board-undone = record {
@@ -126,12 +130,12 @@ module _ (views other : List BlockView) (lists new_lists : List (Option (List �
       stands = e;
       later = ap (λ (l : List BlockTree). walk (redone l) (kept_on other new_lists) (steps_after new)) c.trees ∙ ap (λ (k : Kept). walk (redone (map view_tree views)) k (steps_after new)) e
           ∙ ap (walk (redone (map view_tree views)) (undone (map view_tree views) s (kept_on views lists))) (back-after (map view_tree views) old new s w)
-          ∙ ap (λ (k : Kept). k ∷ walk (redone (map view_tree views)) k (steps_after old)) (returned (map view_tree views) (kept_on views lists) old new s h w);
+          ∙ ap (λ (k : Kept). k ∷ walk (redone (map view_tree views)) k (steps_after old)) (returned (map view_tree views) (kept_on views lists) old new s h.0 w);
     }
 
   module _ (w : WentOn old s new) (e : kept_on other new_lists ≡ redone (map view_tree views) s (kept_on views lists)) where
     pub board-on : IsBoard other new_lists new
-    board-on = rights (subst (λ (k : Kept). IsHistory (map view_tree views) k new) (sym e) (history-on (map view_tree views) (kept_on views lists) old new s h w))
+    board-on = rights (subst (λ (k : Kept). IsHistory (map view_tree views) k new) (sym e) (history-on (map view_tree views) (kept_on views lists) old new s h.0 w)) (ap (λ (k : Kept). length k.lists) e ∙ set-length (lists_after s) lists)
 
     pub board-redone : IsRedone (board_view views lists old) (board_view other new_lists new)
     board-redone = record {
@@ -142,7 +146,7 @@ module _ (views other : List BlockView) (lists new_lists : List (Option (List �
       stands = e;
       earlier = ap (λ (l : List BlockTree). walk (undone l) (kept_on other new_lists) (steps_before new)) c.trees ∙ ap (λ (k : Kept). walk (undone (map view_tree views)) k (steps_before new)) e
           ∙ ap (walk (undone (map view_tree views)) (redone (map view_tree views) s (kept_on views lists))) (on-before (map view_tree views) old new s w)
-          ∙ ap (λ (k : Kept). k ∷ walk (undone (map view_tree views)) k (steps_before old)) (repeated (map view_tree views) (kept_on views lists) old new s h w);
+          ∙ ap (λ (k : Kept). k ∷ walk (undone (map view_tree views)) k (steps_before old)) (repeated (map view_tree views) (kept_on views lists) old new s h.0 w);
     }
 
   module _ (kept : Kept) (w : IsAdded old new s) (leads : LeadsTo views lists kept s) (e : kept_on other new_lists ≡ kept) where
@@ -150,12 +154,12 @@ module _ (views other : List BlockView) (lists new_lists : List (Option (List �
     back = ap (undone (map view_tree views) s) e ∙ leads.back
 
     pub board-noted : IsBoard other new_lists new
-    board-noted = rights (history-noted (map view_tree views) (kept_on views lists) old new s h (kept_on other new_lists) w leads.is_step back (leads.forth ∙ sym e))
+    board-noted = rights (history-noted (map view_tree views) (kept_on views lists) old new s h.0 (kept_on other new_lists) w leads.is_step back (leads.forth ∙ sym e)) (ap (λ (k : Kept). length k.lists) (e ∙ sym leads.forth) ∙ set-length (lists_after s) lists)
 
     pub board-goes : GoesTo (board_view views lists old) kept (board_view other new_lists new)
     board-goes = record {
       present = e;
-      earlier = ap (λ (l : List BlockTree). walk (undone l) (kept_on other new_lists) (steps_before new)) c.trees ∙ noted-earlier (map view_tree views) (kept_on views lists) old new s h (kept_on other new_lists) w back;
-      later = ap (λ (l : List BlockTree). walk (redone l) (kept_on other new_lists) (steps_after new)) c.trees ∙ noted-later (map view_tree views) (kept_on views lists) old new s h (kept_on other new_lists) w;
+      earlier = ap (λ (l : List BlockTree). walk (undone l) (kept_on other new_lists) (steps_before new)) c.trees ∙ noted-earlier (map view_tree views) (kept_on views lists) old new s h.0 (kept_on other new_lists) w back;
+      later = ap (λ (l : List BlockTree). walk (redone l) (kept_on other new_lists) (steps_after new)) c.trees ∙ noted-later (map view_tree views) (kept_on views lists) old new s h.0 (kept_on other new_lists) w;
       carried = c;
     }
