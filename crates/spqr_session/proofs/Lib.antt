@@ -57,6 +57,7 @@ pub mod KeptWholes
 pub mod WholesWalked
 pub mod WholesPut
 pub mod WholesPresent
+pub mod WholesListed
 pub mod WholesConverted
 pub mod WholesFirst
 pub mod Chains
