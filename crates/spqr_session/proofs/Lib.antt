@@ -56,6 +56,8 @@ pub mod WholeSteps
 pub mod KeptWholes
 pub mod WholesWalked
 pub mod WholesPut
+pub mod WholesPresent
+pub mod WholesListed
 pub mod WholesConverted
 pub mod WholesFirst
 pub mod Chains

@@ -159,9 +159,9 @@ module _ (k : Component) (views : List BlockView) (lists : List (Option (List �
   }
 
   -- the step leads there, and back
-  pub whole-leads : (one other : List BlockMove) (cuts : List CutChange) → as_pairs one ≡ pairs_of (moves_forth views (blocks_in all)) k.blocks → as_pairs other ≡ pairs_of (moves_back views (blocks_in all)) k.blocks
-      → cuts ≡ changes_below k.cuts lists wanted (length k.cuts) → LeadsToWhole k views lists (blocks_in all) wanted (Moves one other cuts)
-  whole-leads one other cuts p q c = record {
+  pub whole-leads : (one back_to : List BlockMove) (cuts : List CutChange) → as_pairs one ≡ pairs_of (moves_forth views (blocks_in all)) k.blocks → as_pairs back_to ≡ pairs_of (moves_back views (blocks_in all)) k.blocks
+      → cuts ≡ changes_below k.cuts lists wanted (length k.cuts) → LeadsToWhole k views lists (blocks_in all) wanted (Moves one back_to cuts)
+  whole-leads one back_to cuts p q c = record {
     kept = kept;
     leads = record {
       is_step = (subst (All (IsMoveOf trees)) (sym p) (forth-fit trees entries k.blocks forth back to distinct same ways), subst (All (IsMoveOf trees)) (sym q) (back-fit trees entries k.blocks forth back to distinct same ways));

@@ -108,9 +108,12 @@ module _ (views : List BlockView) (all : List Member) (b : ℕ) (v : BlockView) 
   pub forth-is : moves_between old.tree old.rotation new.rotation ≡ moves_forth views (blocks_in all) b
   forth-is i = moves_between (tree-is i) (old-is i) (new-is i)
 
-  -- and back, where the new block has the same tree
-  pub back-is : new.tree ≡ old.tree → moves_between new.tree new.rotation old.rotation ≡ moves_back views (blocks_in all) b
-  back-is same i = moves_between ((same ∙ tree-is) i) (new-is i) (old-is i)
+  -- and back, where the new block fits there
+  pub back-is : FitsMember views all b → moves_between new.tree new.rotation old.rotation ≡ moves_back views (blocks_in all) b
+  back-is fits =
+      let one : new ≡ fits.plane = (let both : Some new ≡ Some fits.plane = sym present ∙ ap (λ (x : Member). x.plane) read ∙ fits.present in cc) in
+      let same : new.tree ≡ (view_at views b).tree.nodes = ap (λ (x : BlockState). x.tree) one ∙ fits.tree in
+      λ i. moves_between (same i) (new-is i) (old-is i)
 
 -- ---- the step
 

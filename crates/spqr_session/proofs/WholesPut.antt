@@ -8,7 +8,6 @@ use Rattle.skeletons.specs.Items as items
 use Rattle.whole_embed.specs.declared.members.Member.{Member}
 use Rattle.whole_embed.specs.Component.{Component}
 use Rattle.whole_embed.specs.Cuts.{CutState, member_at}
-use Rattle.whole_embed.proofs.Components.{cut-in, vertex-in}
 use Rattle.spqr_session.specs.Trees.{BlockTree, tree_at}
 use Rattle.spqr_session.specs.Certificates.{certificate_at}
 use Rattle.spqr_session.specs.Setting.{Setting, IsSetting}

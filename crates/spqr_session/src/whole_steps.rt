@@ -83,7 +83,8 @@ fn all_forth(
 {
     let mut list = Vec::new(alloc);
     for b in numbers {
-        push_moves(&mut list, *b, forth_of(alloc, blocks, all, *b)?)?;
+        let moves = forth_of(alloc, blocks, all, *b)?;
+        push_moves(&mut list, *b, moves)?;
     }
     Ok(BlockMoves::of(list))
 }
@@ -102,7 +103,8 @@ fn all_back(
 {
     let mut list = Vec::new(alloc);
     for b in numbers {
-        push_moves(&mut list, *b, back_of(alloc, blocks, all, *b)?)?;
+        let moves = back_of(alloc, blocks, all, *b)?;
+        push_moves(&mut list, *b, moves)?;
     }
     Ok(BlockMoves::of(list))
 }

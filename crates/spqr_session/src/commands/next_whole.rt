@@ -24,6 +24,7 @@ fn go_on(alloc: Global, scene: &Scene, board: &mut Board, c: u32) -> Result<Vec<
     ensures setting { IsCarried board.old.views board.new.views }
     ensures memory { OnErr result (board.new ≡ board.old) }
 {
+    board.keeps_places();
     let (mut cuts, mut all) = present_component(alloc, scene, board, c)?;
     if !next_whole(&mut cuts, &mut all) {
         return end_line(alloc);
