@@ -43,8 +43,7 @@ listed-more c old old_all out now new now_all new_all now_out new_out lists t h 
       let w = h.passed l i a in
       let n : i + t + 1 ≡ i + (t + 1) = omega arith in
       let r : IsRank l (system_now new new_all) (i + (t + 1)) = subst (IsRank l (system_now new new_all)) n (next l (i + t) w.0.list w.0.rank) in
-      let text : lists ≡ system_lists old.component (system_now new new_all) = told ∙ lists-of_system new.component (blocks_in new_all) new.lists right.in_plane right.arranged ∙ ap (λ (z : Component). system_lists z (system_now new new_all)) (same ∙ h.component) in
-      (
+      let text : lists ≡ system_lists old.component (system_now new new_all) = told ∙ lists-of_system new.component (blocks_in new_all) new.lists right.in_plane right.arranged ∙ ap (λ (z : Component). system_lists z (system_now new new_all)) (same ∙ h.component) in (
         record { list = list l w.0.list; rank = r },
         lines-more l i (λ q. whole_text c (system_lists old.component q)) t (system_now new new_all) out now_out new_out r w.1 (line ∙ ap (λ (z : List (ℕ × List ℕ)). now_out ++ whole_text c z) text),
       );
