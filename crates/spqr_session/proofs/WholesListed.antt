@@ -31,7 +31,7 @@ pub record AreListed (c : ℕ) (old : CutState) (old_all : List Member) (out : L
 pub listed-begins : (c : ℕ) (old : CutState) (old_all : List Member) (out : List ℕ) → AreTogether old old_all → AreListed c old old_all out old old_all out 0
 listed-begins c old old_all out h = record { together = h; component = refl; passed = λ l i a. (subst (IsListNow old old_all l) (let e : i ≡ i + 0 = omega arith in e) a, sym (append-nil out)) }
 
--- one step more
+-- after one more step
 pub listed-more : (c : ℕ) (old : CutState) (old_all : List Member) (out : List ℕ) (now new : CutState) (now_all new_all : List Member) (now_out new_out : List ℕ) (lists : List (ℕ × List ℕ)) (t : ℕ) → AreListed c old old_all out now now_all now_out t
     → new.component ≡ now.component → AreTogether new new_all → ((l : List (List (List ℕ))) → IsWholeList now.component (blocks_in now_all) l → IsWholeList new.component (blocks_in new_all) l)
     → ((l : List (List (List ℕ))) (i : ℕ) → IsWholeList now.component (blocks_in now_all) l → IsRank l (system_now now now_all) i → IsRank l (system_now new new_all) (i + 1))
@@ -58,7 +58,7 @@ members-told c n t k ahead more last head lines rest text count follows end firs
     changed (members ++ last) whole ∙ ap (λ (y : ℕ). list_whole_text c y ++ (members ++ last)) count ∙ sym (append_assoc (list_whole_text c (length (take n ahead))) members last)
     ∙ ap (λ (x : List ℕ). list_whole_text c (length (take n ahead)) ++ members ++ x) (end ∙ ap (λ (x : Bool). if x then more_text else end_text) follows)
 
--- what the lines say of the family
+-- these are the lines of the list of the family
 pub list-told : (setting : Setting) (c n : ℕ) (family : Family) (cuts : CutState) (all : List Member) (is : IsPresent setting c family cuts all) (text : List ℕ)
     → ((l : List (List (List ℕ))) (i : ℕ) → IsListNow cuts all l i → text ≡ whole_members_text c n cuts.component (drop (i + 1) l)) → IsListTold setting c n family text
 list-told setting c n family cuts all is text h = record {
