@@ -192,4 +192,3 @@ returns-then-not-next_whole-clause-step c =
 pub returns-clause-setting : goal.returns-clause-setting
 returns-clause-setting c =
     let gone = (c.in_ok-put_whole.ensures {u = tt}).done in gone.goes.carried
-
