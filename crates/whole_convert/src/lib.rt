@@ -8,7 +8,7 @@
 //
 // `whole_moves` first makes a rotation system of the lists that are given, and counts V - E + F. A plane one leaves a plane
 // rotation system on each block, so a block can refuse its part only if a locked node has another choice there. All is tried on
-// copies.
+// copies; `lead_whole` returns them with the moves.
 //
 // The lemmas (module of proofs/ in front):
 //   Connected    component-connected: a component is connected, so that plane is V - E + F = 2
@@ -22,6 +22,7 @@
 //   Stages       the blocks on the way; arrangements-same, first-same: what is apart from a block does not change
 //   BlockStages  all-blocks_lead: the moves of the blocks lead; CutStages: the arrangements lead, and whole-leads: all steps
 //   Converted    moved-to: steps that are found so are the moves to the target
+//   TargetLists  the lists of the copies are those of the target
 #![tactic(auto)]
 
 mod converting;
