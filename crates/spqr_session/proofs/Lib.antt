@@ -59,6 +59,7 @@ pub mod WholesPut
 pub mod WholesPresent
 pub mod WholesListed
 pub mod WholesConverted
+pub mod WholesWithin
 pub mod WholesFirst
 pub mod Chains
 pub mod Steps
