@@ -58,8 +58,8 @@ pub mod WholesWalked
 pub mod WholesPut
 pub mod WholesPresent
 pub mod WholesListed
-pub mod WholesConverted
 pub mod WholesWithin
+pub mod WholesConverted
 pub mod WholesFirst
 pub mod Chains
 pub mod Steps
