@@ -1,17 +1,15 @@
 -- A component led to another rotation system, and why it is not.
-use Rattle.std.proofs.Common.{◌≡◌, ℕ, ◌<◌, ◌⊎◌, ◌&&◌, Bool, true, false, not, List, [], ◌∷◌, ◌++◌, length, map, slice_index, slice_index_or, Option, None, Some, All, inl, inr, refl, sym, ap, ap₂, ◌∙◌, subst, arith}
+use Rattle.std.proofs.Common.{◌≡◌, ℕ, ◌⊎◌, ◌&&◌, Bool, true, false, not, List, [], ◌∷◌, ◌++◌, map, None, Some, All, inl, inr, refl, sym, ap, ◌∙◌, subst}
 use Rattle.std.specs.List.{concat}
 use Rattle.std.proofs.lemmas.Bool.{ltb-true, ltb-false}
 use Rattle.std.proofs.lemmas.List.{length-map}
 use Rattle.moves.specs.declared.values.Move.{Move}
 use Rattle.moves.specs.declared.values.Move.TheVariants.{Flip, Permute}
-use Rattle.multigraph.specs.Part.{GraphPart}
 use Rattle.skel_embed.specs.Values.{as_move}
-use Rattle.skel_embed.specs.Taken.{IsGiven}
 use Rattle.whole_embed.specs.declared.members.Member.{Member}
 use Rattle.whole_embed.specs.Component.{Component, BlockInPlane, IsComponentInPlane}
 use Rattle.whole_embed.specs.Cuts.{CutState, blocks_in}
-use Rattle.whole_convert.specs.Between.{WholeStep, as_step, as_steps, blocks_to, whole_moves_between}
+use Rattle.whole_convert.specs.Between.{WholeStep, as_step, as_steps, blocks_to}
 use Rattle.whole_convert.specs.Target.{IsWholeRefusal, IsLedWhole}
 use Rattle.whole_convert.specs.declared.steps.WholeMove.{WholeMove}
 use Rattle.whole_convert.specs.declared.steps.WholeMove.TheVariants.{Block, Regroup}
@@ -21,13 +19,13 @@ use Rattle.spqr_script.specs.Answers.Moves.{move_count_text}
 use Rattle.spqr_script.specs.Answers.Whole.{block_move_text}
 use Rattle.spqr_session.specs.Trees.{BlockTree, tree_at}
 use Rattle.spqr_session.specs.Setting.{Setting, IsSetting}
-use Rattle.spqr_session.specs.State.{Family, State, arrangements_in, component_at, is_planar_component, IsState}
-use Rattle.spqr_session.specs.Embedded.{BlockView, view_tree, view_at}
+use Rattle.spqr_session.specs.State.{State, component_at, is_planar_component, IsState}
+use Rattle.spqr_session.specs.Embedded.{BlockView, view_tree}
 use Rattle.spqr_session.specs.Codes.{code_text, first_code, IsLowest}
 use Rattle.spqr_session.specs.BlockCodes.{with_family}
 use Rattle.spqr_session.specs.Components.{is_component, component_ladder, blocks_of, family_with}
 use Rattle.spqr_session.specs.Commands.Convert.{value_of}
-use Rattle.spqr_session.specs.Commands.ConvertWhole.{step_text, steps_text, ConvertWholeApplies, IsWholeConverted, ConvertWholeStep}
+use Rattle.spqr_session.specs.Commands.ConvertWhole.{step_text, steps_text, ConvertWholeApplies, ConvertWholeStep}
 use Rattle.spqr_session.specs.WholeSteps.{IsStepIn, line_in, lines_in, IsCodeOf, IsWholeTarget}
 use Rattle.spqr_session.specs.declared.code.Code.{Code}
 use Rattle.spqr_session.specs.declared.code.Code.TheVariants.{NonPlanar, NoComponent}
@@ -82,6 +80,7 @@ module _ (setting : Setting) (c : ℕ) (entries : List (ℕ × List ℕ)) (s : S
   abbrev k : Component
   k = component_at setting c
 
+  -- what holds of the component as calls have it
   pub along : (P : Component → (ℕ → BlockInPlane) → Type 0) → P cuts.component (blocks_in all) → P k (blocks_of setting s.present)
   along P p = subst (P k) at.blocks (subst (λ (z : Component). P z (blocks_in all)) at.component p)
 
@@ -118,7 +117,8 @@ module _ (setting : Setting) (c : ℕ) (entries : List (ℕ × List ℕ)) (s : S
     -- the steps are those of blocks that are seen
     pub led-steps : (views : List BlockView) (moves : List WholeMove) → setting.trees ≡ map view_tree views → steps ≡ as_steps moves → All (IsStepIn views) moves
     led-steps views moves seen same = steps-within setting is s.present views seen c (along IsComponentInPlane at.together.in_plane) cuts.lists led-system
-        (subst (λ (z : Component). IsComponentInPlane z (blocks_to (component_at setting c) (blocks_of setting s.present) led-system)) there-led.component (subst (IsComponentInPlane new_cuts.component) there-led.blocks there-led.in_plane)) moves (sym same ∙ there-led.moved.moves)
+        (subst (λ (z : Component). IsComponentInPlane z (blocks_to (component_at setting c) (blocks_of setting s.present) led-system)) there-led.component (subst (IsComponentInPlane new_cuts.component) there-led.blocks there-led.in_plane))
+        moves (sym same ∙ there-led.moved.moves)
 
     pub convert-made : (views : List BlockView) (moves : List WholeMove) (after : State) (text : List ℕ) → setting.trees ≡ map view_tree views → steps ≡ as_steps moves → text ≡ lines_in views moves
         → after ≡ with_family s (family_with setting c led-system s.present) → ConvertWholeStep setting c entries s text after

@@ -1,7 +1,6 @@
-use Rattle.std.proofs.Common.{◌≡◌, ◌<◌, true, List, All, refl, sym, ap₂, ◌∙◌, subst}
+use Rattle.std.proofs.Common.{◌≡◌, List, All, refl, sym, ap₂, ◌∙◌, subst}
 use Rattle.whole_embed.specs.declared.members.Member.{Member}
 use Rattle.whole_embed.specs.Cuts.{member_at}
-use Rattle.whole_convert.specs.declared.steps.WholeMove.{WholeMove}
 use Rattle.whole_convert.specs.Between.{as_steps}
 use Rattle.spqr_session.specs.Embedded.{BlockView, view_at}
 use Rattle.spqr_session.specs.Scene.{setting_on}
