@@ -39,7 +39,7 @@ keys-of part (item ∷ others) a =
 
 module _ (part : GraphPart) (nodes : List Node) (tree : items.IsBlockTree part.graph nodes) where
   -- a move of the tree has keys that are edges
-  move-within : (move : Move) → Fits nodes (as_move move) → IsMoveOf part.graph move
+  pub move-within : (move : Move) → Fits nodes (as_move move) → IsMoveOf part.graph move
   move-within (Flip k) h = tt
   move-within (Permute k keys) h =
       All-permutation (λ e. e < edge_count part.graph) (items.node_keys nodes k) keys h.1 (keys-of part (node_at nodes k).items (node-of_part part nodes k tree.graph tree.tree h.0.0).items)

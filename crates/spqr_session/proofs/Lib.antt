@@ -58,6 +58,7 @@ pub mod WholesWalked
 pub mod WholesPut
 pub mod WholesPresent
 pub mod WholesListed
+pub mod WholesWithin
 pub mod WholesConverted
 pub mod WholesFirst
 pub mod Chains

@@ -1,10 +1,10 @@
 -- `convertwhole`: there is an answer, and one only, and it leads from a state to a state.
-use Rattle.std.proofs.Common.{◌≡◌, ℕ, ◌<◌, ◌≤◌, ◌⊎◌, Bool, true, false, List, inl, inr, refl, sym, ap, ◌∙◌, subst, arith}
+use Rattle.std.proofs.Common.{◌≡◌, ℕ, ◌≤◌, List, inl, inr, refl, sym, ap, ◌∙◌, subst, arith}
 use Rattle.std.proofs.lemmas.Bool.{cases_Bool, cases_lt}
 use Rattle.whole_convert.specs.Between.{whole_moves_between}
 use Rattle.spqr_session.specs.Setting.{Setting, IsSetting}
 use Rattle.spqr_session.specs.State.{State, arrangements_in, component_at, is_planar_component, IsState}
-use Rattle.spqr_session.specs.Codes.{code_text, IsLowest, NoneApplies}
+use Rattle.spqr_session.specs.Codes.{code_text, IsLowest}
 use Rattle.spqr_session.specs.BlockCodes.{with_family}
 use Rattle.spqr_session.specs.Components.{blocks_of, family_with, ChangesComponent}
 use Rattle.spqr_session.specs.Commands.ConvertWhole.{steps_text, ConvertWholeApplies, IsWholeConverted, ConvertWholeStep}

@@ -16,7 +16,7 @@ use crate::wholes::{component_code, present_component};
 use rotations::Lists;
 use spqr_script::{push_block_move_line, push_move_count_line, push_regroup_line};
 use std::alloc::{AllocError, Global};
-use whole_convert::{Led, WholeFault, WholeMove, lead_whole};
+use whole_convert::{WholeFault, WholeMove, lead_whole};
 
 // Appends the line of a step.
 fn push_step_line(
@@ -62,13 +62,6 @@ fn code_of(fault: WholeFault) -> Result<Code, AllocError>
     }
 }
 
-// Gives a component what it is led to, and returns the lines of the moves.
-fn make(alloc: Global, board: &mut Board, led: Led) -> Result<Vec<u8>, AllocError> {
-    let text = steps_lines(alloc, board.blocks(), &led.moves)?;
-    put_whole(alloc, board, &led.cuts, &led.all)?;
-    Ok(text)
-}
-
 // Leads component c, whose blocks are planar, to the rotation system that the lists are.
 fn convert(
     alloc: Global,
@@ -86,9 +79,14 @@ fn convert(
     ensures setting { IsCarried board.old.views board.new.views }
     ensures memory { OnErr result (board.new ≡ board.old) }
 {
+    board.keeps_places();
     let (cuts, all) = present_component(alloc, scene, board, c)?;
     match lead_whole(alloc, &cuts, &all, lists) {
-        Ok(led) => make(alloc, board, led),
+        Ok(led) => {
+            let text = steps_lines(alloc, board.blocks(), &led.moves)?;
+            put_whole(alloc, board, &led.cuts, &led.all)?;
+            Ok(text)
+        }
         Err(fault) => code_of(fault)?.line(alloc),
     }
 }
