@@ -546,30 +546,35 @@ static MEMBERS: [&[u8]; 6] = [
     b"0: 0 6 2 1; 1: 0 3 4; 2: 1 5 3; 3: 2 4 5; 4: 6",
 ];
 
-// The texts one after the other.
-fn joined(alloc: Global, parts: &[&[u8]]) -> Result<Vec<u8>, AllocError> {
-    let mut text = Vec::new(alloc);
-    for part in parts {
-        text.extend_from_slice(part)?;
-    }
-    Ok(text)
+// A text with one more line, which is a word and what comes after it.
+fn with_line(alloc: Global, text: &[u8], word: &[u8], rest: &[u8]) -> Result<Vec<u8>, AllocError> {
+    let mut all = Vec::from_slice(alloc, text)?;
+    all.extend_from_slice(word)?;
+    all.extend_from_slice(rest)?;
+    all.extend_from_slice(b"\n")?;
+    Ok(all)
 }
+
+// How many lines of moves there may be, and what they answer.
+static MOVES: [(&[u8], &[u8]); 3] = [
+    (b"moves 0\n", b""),
+    (b"moves 1\n", b"ok\n"),
+    (b"moves 2\n", b"ok\nok\n"),
+];
 
 // Whether the lines that lead from one of these to another are commands that lead there, each of which answers `ok`.
 fn lines_lead(alloc: Global, from: &[u8], to: &[u8]) -> Result<bool, Fail> {
-    let first = joined(alloc, &[b"convertwhole 0 ", from, b"\n"])?;
-    let both = joined(alloc, &[&first, b"convertwhole 0 ", to, b"\n"])?;
+    let first = with_line(alloc, b"", b"convertwhole 0 ", from)?;
+    let both = with_line(alloc, &first, b"convertwhole 0 ", to)?;
     let (_, before) = answer(alloc, (K4_TAIL, &first), (&[], &[]), 1000)?;
     let (_, after) = answer(alloc, (K4_TAIL, &both), (&[], &[]), 1000)?;
     let printed = after.strip_prefix(before.as_slice()).unwrap_or(b"");
-    for (count, oks) in [
-        (b"moves 0\n".as_slice(), b"".as_slice()),
-        (b"moves 1\n", b"ok\n"),
-        (b"moves 2\n", b"ok\nok\n"),
-    ] {
+    for (count, oks) in MOVES {
         if let Some(lines) = printed.strip_prefix(count) {
-            let script = joined(alloc, &[&first, lines, b"whole 0\n"])?;
-            let wanted = joined(alloc, &[&before, oks, b"whole 0 | ", to, b"\n"])?;
+            let script = with_line(alloc, &first, lines, b"whole 0")?;
+            let mut answers = Vec::from_slice(alloc, &before)?;
+            answers.extend_from_slice(oks)?;
+            let wanted = with_line(alloc, &answers, b"whole 0 | ", to)?;
             let (found, written) = answer(alloc, (K4_TAIL, &script), (&[], &[]), 1000)?;
             return Ok(found == Status::Done && written.as_slice() == wanted.as_slice());
         }
