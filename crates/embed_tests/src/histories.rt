@@ -17,7 +17,7 @@ fn lock(node: u32) -> Step {
 fn node_of(s: &Step) -> Option<u32> {
     match s {
         Step::Lock { node, .. } => Some(*node),
-        Step::Moves { .. } => None,
+        Step::Moves { .. } | Step::Mirror { .. } => None,
     }
 }
 

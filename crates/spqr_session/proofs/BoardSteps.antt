@@ -19,21 +19,21 @@ use Rattle.undo_log.specs.History.{History as UndoHistory}
 use Rattle.undo_log.specs.declared.step.BlockMove.{BlockMove}
 use Rattle.undo_log.specs.declared.step.CutChange.{CutChange}
 use Rattle.undo_log.specs.declared.step.Step.{Step}
-use Rattle.undo_log.specs.declared.step.Step.TheVariants.{Moves, Lock}
+use Rattle.undo_log.specs.declared.step.Step.TheVariants.{Moves, Mirror, Lock}
 use Rattle.spqr_session.specs.Trees.{BlockTree, tree_at}
 use Rattle.spqr_session.specs.State.{Embedding}
 use Rattle.spqr_session.specs.Kept.{Kept}
 use Rattle.spqr_session.specs.Embedded.{BlockView, view_tree, view_certificate, view_entry, view_at, block_view, IsEmbedded}
 use Rattle.embed_moves.specs.Made.{Fits}
 use Rattle.spqr_session.specs.Moved.{all_moved}
-use Rattle.spqr_session.specs.History.{entry_moved, entry_locked, as_pair, as_pairs, pairs_moved, node_locked, lists_set, lists_cleared, lists_after, entries_redone, walk, redone, undone, steps_before, steps_after, IsMoveOf}
+use Rattle.spqr_session.specs.History.{entry_moved, entry_locked, entry_mirrored, as_pair, as_pairs, pairs_moved, block_mirrored, node_locked, lists_set, lists_cleared, lists_after, entries_redone, walk, redone, undone, steps_before, steps_after, IsMoveOf}
 use Rattle.spqr_session.specs.Commands.History.{is_none}
 use Rattle.spqr_session.specs.Board.{BoardView, kept_on, kept_with_entry, kept_changed, board_view, Clears, GoesTo, IsBoard, IsCarried, IsChangedTo, LeadsTo, StandsAt, CanReplace}
 use Rattle.spqr_session.proofs.Views.{trees-at, entries-at}
 use Rattle.spqr_session.proofs.BlockTrees.{view-at}
 use Rattle.spqr_session.proofs.Moved.{moves-keep, between-made}
 use Rattle.spqr_session.proofs.Boards.{IsAdded, board-noted, board-goes}
-use Rattle.spqr_session.proofs.Families.{trees-kept, certificates-kept, entries-set, of_block, pairs-fit, moves-forth, moves-back, lock-forth, lock-back}
+use Rattle.spqr_session.proofs.Families.{trees-kept, certificates-kept, entries-set, of_block, pairs-fit, moves-forth, moves-back, lock-forth, lock-back, mirror-forth, mirror-back}
 
 -- something is passed for each step
 walked : {S : Type 0} (move : S → Kept → Kept) (f : Kept) (ss : List S) → nat_lt 0 (length ss) ≡ not (is_none (walk move f ss))
@@ -162,6 +162,17 @@ module _ (views : List BlockView) (b : ℕ) (e : Embedding) (at : StandsAt views
         behind : All (Fits (view_at views b).tree.nodes) (moves_between (view_at views b).tree.nodes q e.rotation) × (all_moved (view_at views b).tree.nodes (moves_between (view_at views b).tree.nodes q e.rotation) q ≡ e.rotation)
         behind = between-made (view_at views b).tree.part.graph (view_at views b).tree.nodes tree q e.rotation s p
 
+    -- the mirror image leads to itself, and back
+    pub mirror-leads : mirror_image (mirror_image e.rotation) ≡ e.rotation → LeadsTo views lists (kept_changed views lists b (record { rotation = mirror_image e.rotation; locks = e.locks })) (Mirror b cuts)
+    mirror-leads twice = record {
+      is_step = there;
+      forth = λ i. record { entries = mirror-forth (map view_tree views) (map view_entry views) b e new within stands refl i; lists = clears.forth i };
+      back = λ i. record { entries = mirror-back (map view_tree views) (map view_entry views) b e new within stands refl twice i; lists = clears.back i };
+    }
+      where
+        new : Embedding
+        new = record { rotation = mirror_image e.rotation; locks = e.locks }
+
     -- so it is between the block that stands and one that can take its place
     pub plane-leads : (present q : BlockState) (forth back : List BlockMove) → block_view (view_at views b).tree.part (Plane present) ≡ view_at views b → IsEmbedded (view_at views b).tree.part (Plane present)
         → CanReplace views b e q → IsBlockState q → as_pairs forth ≡ of_block b (moves_between present.tree present.rotation q.rotation) → as_pairs back ≡ of_block b (moves_between q.tree q.rotation present.rotation)
@@ -208,6 +219,9 @@ set-moved views trees b v w moves t l at e = entries-set views b v ∙ ap (slice
 
 pub set-locked : (views : List BlockView) (b : ℕ) (v w : BlockView) (k : ℕ) (on : Bool) → b < length views → w ≡ get_or views b w → v.entry ≡ entry_locked k on w.entry → map view_entry (slice_set views b v) ≡ node_locked b k on (map view_entry views)
 set-locked views b v w k on l at e = entries-set views b v ∙ ap (slice_set (map view_entry views) b) (e ∙ ap (λ (x : BlockView). entry_locked k on x.entry) (view-at views b w l at) ∙ ap (entry_locked k on) (sym (entries-at views b)))
+
+pub set-mirrored : (views : List BlockView) (b : ℕ) (v w : BlockView) → b < length views → w ≡ get_or views b w → v.entry ≡ entry_mirrored w.entry → map view_entry (slice_set views b v) ≡ block_mirrored b (map view_entry views)
+set-mirrored views b v w l at e = entries-set views b v ∙ ap (slice_set (map view_entry views) b) (e ∙ ap (λ (x : BlockView). entry_mirrored x.entry) (view-at views b w l at) ∙ ap entry_mirrored (sym (entries-at views b)))
 
 -- a block with this embedding put in the place of another, where the lists are set that a step sets
 module _ (views : List BlockView) (lists new_lists : List (Option (List ℕ))) (b : ℕ) (e : Embedding) (v w : BlockView) (s : Step) (l : b < length views) (at : w ≡ get_or views b w)

@@ -3,6 +3,7 @@ use Rattle.std.proofs.Common.{◌≡◌, ℕ, ◌<◌, Bool, false, List, [], �
 use Rattle.std.proofs.lemmas.List.{map-set, length-set, set-set, set-get_or, get_or-set_same}
 use Rattle.std.proofs.lemmas.List.Elements.{All-nil, All-cons, All-head, All-tail}
 use Rattle.std.proofs.Math.Seq.{map-set_same}
+use Rattle.rotations.specs.Runs.{mirror_image}
 use Rattle.skeletons.specs.Moves.{Move}
 use Rattle.skel_embed.specs.Block.{lock_at}
 use Rattle.embed_moves.specs.Made.{Fits}
@@ -10,7 +11,7 @@ use Rattle.spqr_session.specs.Trees.{BlockTree, tree_at}
 use Rattle.spqr_session.specs.State.{Embedding}
 use Rattle.spqr_session.specs.Embedded.{BlockView, view_tree, view_certificate, view_entry, no_view, view_at}
 use Rattle.spqr_session.specs.Moved.{all_moved}
-use Rattle.spqr_session.specs.History.{entry_moved, entry_locked, pairs_moved, node_locked, IsMoveOf}
+use Rattle.spqr_session.specs.History.{entry_moved, entry_locked, entry_mirrored, pairs_moved, block_mirrored, node_locked, IsMoveOf}
 
 module _ (views : List BlockView) (b : ℕ) (v : BlockView) where
   -- trees and certificates stay where those of the block do
@@ -81,3 +82,11 @@ module _ (trees : List BlockTree) (es : List (Option Embedding)) (b : ℕ) (e ne
   lock-back k on before p q = set-back es b (Some new) (entry_locked k before (slice_index_or (slice_set es b (Some new)) b None))
       (ap (entry_locked k before) (entry-there es b (Some new) l) ∙ ap (λ (x : Embedding). entry_locked k before (Some x)) p
       ∙ ap (λ (ls : List Bool). Some (record { rotation = e.rotation; locks = ls })) (set-set e.locks k on before ∙ ap (slice_set e.locks k) q ∙ set-get_or e.locks k false) ∙ sym at)
+
+  -- the mirror image, and back
+  pub mirror-forth : new ≡ record { rotation = mirror_image e.rotation; locks = e.locks } → block_mirrored b es ≡ slice_set es b (Some new)
+  mirror-forth p = ap (slice_set es b) (ap entry_mirrored at ∙ ap (λ (x : Embedding). Some x) (sym p))
+
+  pub mirror-back : new ≡ record { rotation = mirror_image e.rotation; locks = e.locks } → mirror_image (mirror_image e.rotation) ≡ e.rotation → block_mirrored b (slice_set es b (Some new)) ≡ es
+  mirror-back p q = set-back es b (Some new) (entry_mirrored (slice_index_or (slice_set es b (Some new)) b None))
+      (ap entry_mirrored (entry-there es b (Some new) l) ∙ ap (λ (x : Embedding). entry_mirrored (Some x)) p ∙ ap (λ (r : List (List ℕ)). Some (record { rotation = r; locks = e.locks })) q ∙ sym at)

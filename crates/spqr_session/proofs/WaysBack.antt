@@ -1,48 +1,27 @@
--- What moves make of choices; that moves of different nodes are taken back one by one; and the moves to the mirror image.
-use Rattle.std.proofs.Common.{◌≡◌, ◌≢◌, ℕ, zero, suc, ◌+◌, ◌<◌, ◌≤◌, le_refl, ◌==◌, inl, inr, Bool, true, false, cond, List, [], ◌∷◌, ◌++◌, length, map, get_or, reverse, refl, sym, ap, ap₂, ◌∙◌, subst, arith, add-one, All, IsPermutation}
-use Rattle.std.proofs.lemmas.Bool.{cases_eq, eq-eqb, ne_eqb, or_parts, true≢false, false_from_ne_true}
-use Rattle.std.proofs.lemmas.List.{reverse-reverse, map-append}
-use Rattle.std.proofs.lemmas.List.Elements.{All-nil, All-cons, All-head, All-tail, All-append}
-use Rattle.std.proofs.lemmas.List.Sorted.{IsPermutation-trans, IsPermutation-reverse}
+-- What moves make of choices; and that moves of different nodes are taken back one by one.
+use Rattle.std.proofs.Common.{◌≡◌, ◌≢◌, ℕ, zero, suc, ◌<◌, ◌==◌, inl, inr, Bool, true, false, cond, List, [], ◌∷◌, length, map, get_or, reverse, refl, sym, ap, ◌∙◌, subst, arith, All, IsPermutation}
+use Rattle.std.proofs.lemmas.Bool.{cases_eq, eq-eqb, ne_eqb, or_parts}
+use Rattle.std.proofs.lemmas.List.{reverse-reverse}
+use Rattle.std.proofs.lemmas.List.Elements.{All-nil, All-cons, All-head, All-tail}
 use Rattle.permutations.specs.Cyclic.{from_least}
 use Rattle.permutations.specs.Members.{is_member, is_distinct}
-use Rattle.permutations.proofs.Members.{member-head, member-tail, member-cases, member-append_cases, distinct-head, distinct-tail, distinct-append, distinct-reverse}
+use Rattle.permutations.proofs.Members.{member-head, member-tail, distinct-head, distinct-tail, distinct-reverse}
 use Rattle.multigraph.specs.Graph.{Multigraph}
-use Rattle.rotations.specs.Runs.{mirror_image}
 use Rattle.faces.specs.Euler.{IsPlaneSystem}
-use Rattle.faces.proofs.MapMirror.{mirror-system, mirror-image-plane}
-use Rattle.pair_split.specs.Tutte.{Node, node_at}
-use Rattle.pair_split.specs.declared.components.Kind.{Kind}
-use Rattle.pair_split.specs.declared.components.Kind.TheVariants.{S, P, R, B}
-use Rattle.skeletons.specs.Items.{IsBlockTree, node_keys, least_vertex}
-use Rattle.skeletons.specs.Round.{keys_round}
-use Rattle.skeletons.specs.Choices.{choice, choice_of_kind}
-use Rattle.skeletons.specs.Moves.{Move, flip, permute, moved_node, move_of_kind, IsNodeOfKind, MoveLeads, Lead}
-use Rattle.skeletons.proofs.Moved.{move-others, flip-turns, permute-sets, mirror-turns, mirror-normal}
+use Rattle.pair_split.specs.Tutte.{Node}
+use Rattle.pair_split.specs.declared.components.Kind.TheVariants.{P}
+use Rattle.skeletons.specs.Items.{IsBlockTree, node_keys}
+use Rattle.skeletons.specs.Choices.{choice}
+use Rattle.skeletons.specs.Moves.{Move, flip, permute, moved_node, IsNodeOfKind, MoveLeads, Lead}
+use Rattle.skeletons.proofs.Moved.{move-others, flip-turns, permute-sets, mirror-normal}
 use Rattle.skeleton_runs.proofs.Contiguous.{plane-contiguous}
 use Rattle.skeleton_choices.proofs.Told.{tell}
 use Rattle.skeleton_choices.proofs.Listed.{choice-normal}
 use Rattle.skel_embed.specs.Values.{as_move, as_moves}
 use Rattle.moves.specs.declared.values.Move as kept
 use Rattle.embed_moves.specs.Made.{Fits}
-use Rattle.spqr_session.specs.Moved.{moved, all_moved, way_back, mirror_move, AreOfNodes, LeadBack, LeadToMirror}
+use Rattle.spqr_session.specs.Moved.{moved, all_moved, way_back, AreOfNodes, LeadBack}
 use Rattle.spqr_session.proofs.Moved.{move-leads, move-keeps, moves-keep}
-
--- the moves of the first n nodes towards the mirror image
-abbrev pub mirror_below : List Node → List (List ℕ) → ℕ → List Move
-mirror_below nodes r zero = []
-mirror_below nodes r (suc n) = mirror_below nodes r n ++ mirror_move nodes r n
-
--- those of one node more
-pub mirror-more : (nodes : List Node) (r : List (List ℕ)) (k : ℕ) (list found : List Move) → list ≡ mirror_below nodes r k → found ≡ mirror_move nodes r k → list ++ found ≡ mirror_below nodes r (k + 1)
-mirror-more nodes r k list found e f = ap₂ (λ (a b : List Move). a ++ b) e f ∙ sym (ap (mirror_below nodes r) (add-one k))
-
--- the one member
-only : (j k : ℕ) → is_member j (k ∷ []) ≡ true → k ≡ j
-only j k m = elim (member-cases j k [] m) [
-  | inl e ↦ e
-  | inr n ↦ absurd (true≢false (sym n))
-]
 
 -- what a move makes of the choice of its node
 abbrev pub choice_moved : Move → List ℕ → List ℕ
@@ -67,11 +46,6 @@ after-others [] j c o = refl
 after-others (move ∷ moves) j c o =
     let parts = or_parts (moved_node move == j) (is_member j (map moved_node moves)) o in
     ap (choice_after moves j) (other-choice move j c parts.0) ∙ after-others moves j c parts.1
-
--- moves one after another
-pub after-more : (moves more : List Move) (j : ℕ) (c : List ℕ) → choice_after (moves ++ more) j c ≡ choice_after more j (choice_after moves j c)
-after-more [] more j c = refl
-after-more (move ∷ moves) more j c = after-more moves more j (cond (moved_node move == j) (choice_moved move c) c)
 
 module _ (g : Multigraph) (nodes : List Node) (b : IsBlockTree g nodes) where
   -- the choices after a move
@@ -178,83 +152,6 @@ module _ (g : Multigraph) (nodes : List Node) (b : IsBlockTree g nodes) where
   -- so the moves that lead back from each alone lead back from all
   pub lead-back : (r : List (List ℕ)) → IsPlaneSystem g r → ((k : ℕ) → IsNodeOfKind nodes k P → IsPermutation (node_keys nodes k) (choice nodes r k)) → (moves : List Move) → AreOfNodes nodes moves → LeadBack nodes r moves (map (way_back nodes r) moves)
   lead-back r p arranged moves are = record { fit = backs-fit r arranged moves are.fit; returns = returned r p arranged moves r p are.fit are.apart (λ j m. refl) }
-
-  -- ---- the mirror image
-
-  -- the move of a node of this kind, if it has choices: it fits, is of that node, and reverses the choice
-  one-fits : (r : List (List ℕ)) → ((k : ℕ) → IsNodeOfKind nodes k P → IsPermutation (node_keys nodes k) (reverse (choice nodes r k))) → (k : ℕ) → k < length nodes → All (Fits nodes) (mirror_move nodes r k)
-  one-fits r arranged k l = by (node_at nodes k).kind refl
-    where
-      by : (kind : Kind) → (node_at nodes k).kind ≡ kind → All (Fits nodes) (move_of_kind kind k (reverse (choice nodes r k)))
-      by R e = All-cons (Fits nodes) (flip k) [] (l, e) (All-nil (Fits nodes))
-      by P e = All-cons (Fits nodes) (permute k (reverse (choice nodes r k))) [] ((l, e), arranged k (l, e)) (All-nil (Fits nodes))
-      by S e = All-nil (Fits nodes)
-      by B e = All-nil (Fits nodes)
-
-  one-member : (kind : Kind) (k : ℕ) (keys : List ℕ) (j : ℕ) → is_member j (map moved_node (move_of_kind kind k keys)) ≡ true → k ≡ j
-  one-member R k keys j m = only j k m
-  one-member P k keys j m = only j k m
-  one-member S k keys j m = absurd (true≢false (sym m))
-  one-member B k keys j m = absurd (true≢false (sym m))
-
-  one-apart : (kind : Kind) (k : ℕ) (keys : List ℕ) → is_distinct (map moved_node (move_of_kind kind k keys)) ≡ true
-  one-apart R k keys = refl
-  one-apart P k keys = refl
-  one-apart S k keys = refl
-  one-apart B k keys = refl
-
-  one-choice : (kind : Kind) (k : ℕ) (c : List ℕ) → choice_after (move_of_kind kind k (reverse (choice_of_kind kind c))) k (choice_of_kind kind c) ≡ from_least (reverse (choice_of_kind kind c))
-  one-choice R k c = own-choice (flip k) k c refl
-  one-choice P k c = own-choice (permute k (reverse c)) k c refl
-  one-choice S k c = refl
-  one-choice B k c = refl
-
-  below-member : (r : List (List ℕ)) (n j : ℕ) → is_member j (map moved_node (mirror_below nodes r n)) ≡ true → j < n
-  below-member r zero j m = absurd (true≢false (sym m))
-  below-member r (suc n) j m =
-      let split = map-append moved_node (mirror_below nodes r n) (mirror_move nodes r n) in
-      elim (member-append_cases j (map moved_node (mirror_below nodes r n)) (map moved_node (mirror_move nodes r n)) (sym (ap (is_member j) split) ∙ m)) [
-        | inl a ↦ let l = below-member r n j a in omega (arith, l)
-        | inr a ↦ let e = one-member (node_at nodes n).kind n (reverse (choice nodes r n)) j a in omega (arith, e)
-      ]
-
-  not-below : (r : List (List ℕ)) (n j : ℕ) → n ≤ j → is_member j (map moved_node (mirror_below nodes r n)) ≡ false
-  not-below r n j l = false_from_ne_true (is_member j (map moved_node (mirror_below nodes r n))) (λ m. let b = below-member r n j m in omega (arith, l, b))
-
-  below-apart : (r : List (List ℕ)) (n : ℕ) → is_distinct (map moved_node (mirror_below nodes r n)) ≡ true
-  below-apart r zero = refl
-  below-apart r (suc n) =
-      ap is_distinct (map-append moved_node (mirror_below nodes r n) (mirror_move nodes r n))
-      ∙ distinct-append (map moved_node (mirror_below nodes r n)) (map moved_node (mirror_move nodes r n)) (below-apart r n) (one-apart (node_at nodes n).kind n (reverse (choice nodes r n)))
-      (λ j m. false_from_ne_true (is_member j (map moved_node (mirror_move nodes r n))) (λ a.
-      let l = below-member r n j m in
-      let e = one-member (node_at nodes n).kind n (reverse (choice nodes r n)) j a in omega (arith, l, e)))
-
-  below-fits : (r : List (List ℕ)) → ((k : ℕ) → IsNodeOfKind nodes k P → IsPermutation (node_keys nodes k) (reverse (choice nodes r k))) → (n : ℕ) → n ≤ length nodes → All (Fits nodes) (mirror_below nodes r n)
-  below-fits r arranged zero l = All-nil (Fits nodes)
-  below-fits r arranged (suc n) l = All-append (Fits nodes) (mirror_below nodes r n) (mirror_move nodes r n) (below-fits r arranged n (omega (arith, l))) (one-fits r arranged n (omega (arith, l)))
-
-  below-choice : (r : List (List ℕ)) (n j : ℕ) → j < n → choice_after (mirror_below nodes r n) j (choice nodes r j) ≡ from_least (reverse (choice nodes r j))
-  below-choice r zero j l = absurd (omega (arith, l))
-  below-choice r (suc n) j l = after-more (mirror_below nodes r n) (mirror_move nodes r n) j (choice nodes r j) ∙ elim (cases_eq j n) [
-    | inl e ↦ ap (choice_after (mirror_move nodes r n) j) (after-others (mirror_below nodes r n) j (choice nodes r j) (not-below r n j (omega (arith, e))))
-        ∙ subst (λ (i : ℕ). choice_after (mirror_move nodes r n) i (choice nodes r i) ≡ from_least (reverse (choice nodes r i))) (sym e) (one-choice (node_at nodes n).kind n (keys_round nodes r n (least_vertex nodes n)))
-    | inr d ↦ after-others (mirror_move nodes r n) j (choice_after (mirror_below nodes r n) j (choice nodes r j)) (false_from_ne_true (is_member j (map moved_node (mirror_move nodes r n)))
-        (λ a. d (sym (one-member (node_at nodes n).kind n (reverse (choice nodes r n)) j a)))) ∙ below-choice r n j (omega (arith, l, d))
-  ]
-
-  pub lead-mirror : (r : List (List ℕ)) → IsPlaneSystem g r → ((k : ℕ) → IsNodeOfKind nodes k P → IsPermutation (node_keys nodes k) (choice nodes r k)) → LeadToMirror nodes r (mirror_below nodes r (length nodes))
-  lead-mirror r p arranged = record { are = record { fit = fit; apart = below-apart r (length nodes) }; mirror = same }
-    where
-      fit : All (Fits nodes) (mirror_below nodes r (length nodes))
-      fit = below-fits r (λ k is. IsPermutation-trans (node_keys nodes k) (choice nodes r k) (reverse (choice nodes r k)) (arranged k is) (IsPermutation-reverse (choice nodes r k))) (length nodes) (le_refl (length nodes))
-
-      image : IsPlaneSystem g (mirror_image r)
-      image = record { system = mirror-system g r p.system; plane = mirror-image-plane g r b.graph p.system p.plane }
-
-      same : all_moved nodes (mirror_below nodes r (length nodes)) r ≡ mirror_image r
-      same = tell g nodes b (all_moved nodes (mirror_below nodes r (length nodes)) r) (mirror_image r) (moves-keep g nodes b (mirror_below nodes r (length nodes)) r p fit) image (λ j l.
-          choices-moved (mirror_below nodes r (length nodes)) r j p fit l ∙ below-choice r (length nodes) j l ∙ sym (mirror-turns g nodes r b p.system (plane-contiguous g nodes r b p) j l))
 
   -- ---- through plane rotation systems
 

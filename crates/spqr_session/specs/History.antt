@@ -8,7 +8,7 @@ use Rattle.undo_log.specs.History.{History as UndoHistory}
 use Rattle.undo_log.specs.declared.step.BlockMove.{BlockMove}
 use Rattle.undo_log.specs.declared.step.CutChange.{CutChange}
 use Rattle.undo_log.specs.declared.step.Step.{Step}
-use Rattle.undo_log.specs.declared.step.Step.TheVariants.{Moves, Lock}
+use Rattle.undo_log.specs.declared.step.Step.TheVariants.{Moves, Mirror, Lock}
 use Rattle.spqr_session.specs.Trees.{BlockTree, tree_at}
 use Rattle.spqr_session.specs.State.{Embedding}
 use Rattle.spqr_session.specs.Kept.{Kept}
@@ -46,6 +46,10 @@ pairs_moved trees (p ∷ ps) entries = pairs_moved trees ps (slice_set entries p
 abbrev pub node_locked : ℕ → ℕ → Bool → List (Option Embedding) → List (Option Embedding)
 node_locked b k on entries = slice_set entries b (entry_locked k on (slice_index_or entries b None))
 
+-- what the mirror image of block b makes of them
+abbrev pub block_mirrored : ℕ → List (Option Embedding) → List (Option Embedding)
+block_mirrored b entries = slice_set entries b (entry_mirrored (slice_index_or entries b None))
+
 -- the lists after others were set at vertices, one after the other
 abbrev pub lists_set : List (ℕ × Option (List ℕ)) → List (Option (List ℕ)) → List (Option (List ℕ))
 lists_set [] lists = lists
@@ -81,19 +85,23 @@ list_before change = (change.vertex, change.before)
 -- the lists that a step sets at vertices, and those that it sets when it is taken back
 abbrev pub lists_after : Step → List (ℕ × Option (List ℕ))
 lists_after (Moves forth back cuts) = map list_after cuts
+lists_after (Mirror b cuts) = map list_after cuts
 lists_after (Lock b k before after) = []
 
 abbrev pub lists_before : Step → List (ℕ × Option (List ℕ))
 lists_before (Moves forth back cuts) = map list_before cuts
+lists_before (Mirror b cuts) = map list_before cuts
 lists_before (Lock b k before after) = []
 
 -- what a step of the history makes of the entries, and what the entries were before it
 abbrev pub entries_redone : List BlockTree → Step → List (Option Embedding) → List (Option Embedding)
 entries_redone trees (Moves forth back cuts) entries = pairs_moved trees (as_pairs forth) entries
+entries_redone trees (Mirror b cuts) entries = block_mirrored b entries
 entries_redone trees (Lock b k before after) entries = node_locked b k after entries
 
 abbrev pub entries_undone : List BlockTree → Step → List (Option Embedding) → List (Option Embedding)
 entries_undone trees (Moves forth back cuts) entries = pairs_moved trees (as_pairs back) entries
+entries_undone trees (Mirror b cuts) entries = block_mirrored b entries
 entries_undone trees (Lock b k before after) entries = node_locked b k before entries
 
 -- and what it makes of all that is kept
@@ -114,9 +122,10 @@ steps_after log = drop log.cursor log.steps
 abbrev pub IsMoveOf : List BlockTree → ℕ × Move → Type 0
 IsMoveOf trees p = (p.0 < length trees) × Fits (tree_at trees p.0).nodes p.1
 
--- a step is one of blocks that are there: moves of their trees, there and back, or a lock of a node
+-- a step is one of blocks that are there: moves of their trees, there and back, a mirror image, or a lock of a node
 abbrev pub IsStepOf : List BlockTree → Step → Type 0
 IsStepOf trees (Moves forth back cuts) = All (IsMoveOf trees) (as_pairs forth) × All (IsMoveOf trees) (as_pairs back)
+IsStepOf trees (Mirror b cuts) = b < length trees
 IsStepOf trees (Lock b k before after) = (b < length trees) × (k < length (tree_at trees b).nodes)
 
 -- a history belongs to what is kept of a family: its steps are steps of the blocks, and each is taken back along the way

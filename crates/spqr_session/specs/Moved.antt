@@ -1,16 +1,15 @@
--- What moves make of a rotation system: flips and permutes as functions; and moves that lead back, or to the mirror image.
+-- What moves make of a rotation system: flips and permutes as functions; and moves that lead back.
 use Rattle.std.specs.Prelude.{◌≡◌, ℕ, ◌==◌, true, not, cond, List, [], ◌∷◌, length, map, filter, reverse, All}
 use Rattle.std.specs.List.{concat}
 use Rattle.permutations.specs.Cyclic.{first_or, turned, from_least}
 use Rattle.permutations.specs.Members.{is_distinct}
 use Rattle.multigraph.specs.Graph.{numbers_below}
 use Rattle.rotations.specs.Rotation.{order_at}
-use Rattle.rotations.specs.Runs.{mirror_image}
-use Rattle.pair_split.specs.Tutte.{Node, node_at, group}
+use Rattle.pair_split.specs.Tutte.{Node, group}
 use Rattle.skeletons.specs.Items.{has_vertex, least_vertex}
 use Rattle.skeletons.specs.Round.{keys_met}
 use Rattle.skeletons.specs.Choices.{choice}
-use Rattle.skeletons.specs.Moves.{Move, flip, permute, moved_node, move_of_kind}
+use Rattle.skeletons.specs.Moves.{Move, flip, permute, moved_node}
 use Rattle.embed_moves.specs.Made.{Fits}
 
 -- the group with the key k, in the order in which it is visited on the way around from a member with another key
@@ -55,12 +54,3 @@ way_back nodes r (permute k keys) = permute k (choice nodes r k)
 pub record LeadBack (nodes : List Node) (r : List (List ℕ)) (forth back : List Move) : Type 0 where
   pub fit : All (Fits nodes) back
   pub returns : all_moved nodes back (all_moved nodes forth r) ≡ r
-
--- the move of node k towards the mirror image of r: a flip, or a permute to the reversed choice; none where it has no choices
-abbrev pub mirror_move : List Node → List (List ℕ) → ℕ → List Move
-mirror_move nodes r k = move_of_kind (node_at nodes k).kind k (reverse (choice nodes r k))
-
--- moves of the tree, no two of one node, lead from r to its mirror image
-pub record LeadToMirror (nodes : List Node) (r : List (List ℕ)) (moves : List Move) : Type 0 where
-  pub are : AreOfNodes nodes moves
-  pub mirror : all_moved nodes moves r ≡ mirror_image r

@@ -1,14 +1,15 @@
 // The blocks of a session with the history of their changes.
-ghost use Rattle.std.specs.Prelude.{◌≡◌, ◌<◌, ◌+◌, ℕ, List, Option, false, not, [], length, map, replicate, slice_index_or, slice_set, None, Some, IfOk, OnErr, MatchOption, All};
+ghost use Rattle.std.specs.Prelude.{◌≡◌, ◌<◌, ◌+◌, ℕ, List, Option, false, not, [], length, map, replicate, slice_index_or, None, Some, IfOk, OnErr, MatchOption, All};
+ghost use Rattle.rotations.specs.Runs.{mirror_image};
 ghost use Rattle.skeletons.specs.Moves.{moves_between};
 ghost use Rattle.skel_embed.specs.Values.{as_moves};
 ghost use Rattle.undo_log.specs.History.{IsStepAt};
 ghost use Rattle.undo_log.specs.declared.step.Step.{Step};
 ghost use Rattle.spqr_session.specs.State.{Embedding};
 ghost use Rattle.spqr_session.specs.Kept.{Kept};
-ghost use Rattle.spqr_session.specs.Embedded.{BlockView, view_tree, view_certificate, view_entry, view_at, IsInPlane};
-ghost use Rattle.spqr_session.specs.Moved.{all_moved, LeadBack};
-ghost use Rattle.spqr_session.specs.History.{as_pairs, IsMoveOf, IsStepOf, pairs_moved, node_locked, entries_redone, entries_undone, lists_before, lists_after};
+ghost use Rattle.spqr_session.specs.Embedded.{BlockView, view_tree, view_entry, view_at, IsInPlane};
+ghost use Rattle.spqr_session.specs.Moved.{all_moved};
+ghost use Rattle.spqr_session.specs.History.{as_pairs, IsMoveOf, IsStepOf, pairs_moved, block_mirrored, node_locked, entries_redone, entries_undone, lists_before, lists_after};
 ghost use Rattle.spqr_session.specs.Commands.History.{is_none};
 ghost use Rattle.spqr_session.specs.Commands.Lock.{with_lock};
 ghost use Rattle.spqr_session.specs.Board.{HavePlaces, StandsAt, CanReplace, CanMake, AreMade, IsMirroredAt, IsChangedTo, GoesTo, LeadsTo, IsCarried, kept_with_entry, kept_changed, IsUndone, IsRedone};
@@ -147,14 +148,8 @@ impl Board {
         ensures done { IfOk result (λ _. IsMirroredAt self.old b self.new) }
         ensures memory { OnErr result (self.new ≡ self.old) }
     {
-        let forth = self.blocks[b as usize].moves_to_mirror(alloc)?;
-        let step = step_of(alloc, &self.blocks, &self.lists, b, forth)?;
-        let lists = lists_after(alloc, &step)?;
-        self.log.reserve()?;
-        self.log.note(step);
-        self.lists.set(lists);
-        self.blocks[b as usize].mirror();
-        Ok(())
+        let step = mirror_step(alloc, &self.blocks, &self.lists, b)?;
+        self.carry(alloc, step)
     }
 
     /// Locks node `k` of block `b`, or takes its lock away, also where it was so already. If memory runs out, everything is as before.
@@ -286,6 +281,29 @@ fn step_of(
     })
 }
 
+// The step that reverses every rotation of block b.
+fn mirror_step(
+    alloc: Global,
+    blocks: &[EmbeddedBlock],
+    lists: &KeptLists,
+    b: u32,
+) -> Result<Step, AllocError>
+    requires { (e : Embedding) × StandsAt blocks.now b e }
+    ensures leads { (e : Embedding) → StandsAt blocks.now b e
+        → IfOk result (LeadsTo blocks.now lists.now (kept_changed blocks.now lists.now b (record {
+          rotation = mirror_image e.rotation;
+          locks = e.locks;
+        }))) }
+    ensures plane { IsInPlane (view_at blocks.now b) }
+{
+    let block = &blocks[b as usize];
+    block.belongs();
+    Ok(Step::Mirror {
+        block: b,
+        cuts: lists.cleared(alloc, block.part())?,
+    })
+}
+
 // The step that locks node k of block b, or takes its lock away.
 fn lock_step(blocks: &[EmbeddedBlock], b: u32, k: u32, on: bool) -> Step
     requires block { b < length blocks.now }
@@ -355,6 +373,16 @@ fn move_blocks(blocks: &mut Vec<EmbeddedBlock>, moves: &BlockMoves)
     }
 }
 
+// Reverses every rotation of block b.
+fn mirror_block(blocks: &mut Vec<EmbeddedBlock>, b: u32)
+    requires { b < length blocks.old.items }
+    ensures carried { IsCarried blocks.old.items blocks.new.items }
+    ensures entries { map view_entry blocks.new.items ≡ block_mirrored b
+        (map view_entry blocks.old.items) }
+{
+    blocks[b as usize].mirror();
+}
+
 // Locks node k of block b, or takes its lock away.
 fn lock_block(blocks: &mut Vec<EmbeddedBlock>, b: u32, k: u32, on: bool)
     requires block { b < length blocks.old.items }
@@ -375,6 +403,7 @@ fn carry_back(blocks: &mut Vec<EmbeddedBlock>, step: &Step)
 {
     match step {
         Step::Moves { back, .. } => move_blocks(blocks, back),
+        Step::Mirror { block, .. } => mirror_block(blocks, *block),
         Step::Lock {
             block,
             node,
@@ -393,6 +422,7 @@ fn carry_forth(blocks: &mut Vec<EmbeddedBlock>, step: &Step)
 {
     match step {
         Step::Moves { forth, .. } => move_blocks(blocks, forth),
+        Step::Mirror { block, .. } => mirror_block(blocks, *block),
         Step::Lock {
             block,
             node,

@@ -177,7 +177,7 @@ pub(crate) fn lists_after(alloc: Global, step: &Step) -> Result<Vec<(u32, Arrang
     ensures { IfOk result (λ lists. lists.items ≡ lists_after step.now) }
 {
     match step {
-        Step::Moves { cuts, .. } => afters(alloc, cuts),
+        Step::Moves { cuts, .. } | Step::Mirror { cuts, .. } => afters(alloc, cuts),
         Step::Lock { .. } => Ok(Vec::new(alloc)),
     }
 }
@@ -190,7 +190,7 @@ pub(crate) fn lists_before(
     ensures { IfOk result (λ lists. lists.items ≡ lists_before step.now) }
 {
     match step {
-        Step::Moves { cuts, .. } => befores(alloc, cuts),
+        Step::Moves { cuts, .. } | Step::Mirror { cuts, .. } => befores(alloc, cuts),
         Step::Lock { .. } => Ok(Vec::new(alloc)),
     }
 }
