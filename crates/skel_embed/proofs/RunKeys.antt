@@ -1,18 +1,18 @@
--- The keys of the runs round a vertex, read off the edges before which another key stands.
-use Rattle.std.proofs.Common.{◌≡◌, ◌≢◌, ℕ, ◌<◌, ◌⊎◌, inl, inr, Bool, true, false, not, List, [], ◌∷◌, ◌++◌, length, map, filter, refl, sym, ap, ◌∙◌, subst, arith, append_assoc, All}
+-- The keys of the runs around a vertex, read off the edges before which there is another key.
+use Rattle.std.proofs.Common.{◌≡◌, ◌≢◌, ℕ, ◌<◌, ◌⊎◌, inl, inr, Bool, true, false, not, List, [], ◌∷◌, ◌++◌, length, map, filter, reverse, refl, sym, ap, ◌∙◌, subst, arith, append_assoc, All}
 use Rattle.std.proofs.lemmas.Bool.{ne_eqb, eq-eqb, true≢false}
-use Rattle.std.proofs.lemmas.List.{length-map}
+use Rattle.std.proofs.lemmas.List.{length-map, reverse-reverse}
 use Rattle.std.proofs.lemmas.List.Elements.{All-head, All-tail, All-cons, All-nil, filter-append}
 use Rattle.std.proofs.lemmas.List.Sorted.{length_permutation}
 use Rattle.permutations.specs.Cyclic.{first_or, predecessor, from_least, turned, IsTurn}
 use Rattle.permutations.specs.Members.{is_member, is_distinct}
 use Rattle.permutations.specs.Runs.{joined, group_keys, IsGroup, InRuns}
 use Rattle.permutations.proofs.Filter.{filter-all, filter-none}
-use Rattle.permutations.proofs.Members.{member-head, member-cases, member-append_right, member-tail, CutAt, cut_at}
+use Rattle.permutations.proofs.Members.{member-head, member-cases, member-append_right, member-tail, distinct-reverse, CutAt, cut_at}
 use Rattle.permutations.proofs.NormalForm.{from_least-same, from_least-turn, from_least-member, from_least-first_or, least-same}
 use Rattle.permutations.proofs.Runs.{first-of, other-groups, runs-turn, runs-picked}
 use Rattle.permutations.proofs.Successor.{predecessor-successor}
-use Rattle.permutations.proofs.Turned.{IsTurn-sym, IsTurn-map, IsTurn-member, IsTurn-length}
+use Rattle.permutations.proofs.Turned.{IsTurn-sym, IsTurn-distinct, IsTurn-map, IsTurn-member, IsTurn-length}
 use Rattle.multigraph.specs.Graph.{Multigraph}
 use Rattle.rotations.specs.Rotation.{order_at}
 use Rattle.faces.proofs.DartLemmas.{order-distinct}
@@ -21,18 +21,18 @@ use Rattle.pair_split.specs.Split.{items_of, piece_ends}
 use Rattle.pair_split.specs.declared.components.Kind.{Kind}
 use Rattle.pair_split.specs.declared.components.Kind.TheVariants.{P, R}
 use Rattle.pair_split.proofs.NodeParts.{node-pieces}
-use Rattle.skeletons.specs.Items.{node_keys, keys_at, has_vertex, least_vertex, item_key, IsBlockTree}
+use Rattle.skeletons.specs.Items.{node_keys, keys_at, has_vertex, least_vertex, greatest_vertex, item_key, IsBlockTree}
 use Rattle.faces.specs.Euler.{IsPlaneSystem}
 use Rattle.skeletons.specs.Round.{keys_round}
 use Rattle.skeletons.specs.Choices.{choice_of_kind, choice}
 use Rattle.skeletons.proofs.KeyRuns.{met-runs}
-use Rattle.skeletons.proofs.Vertices.{least-has, vertex-in}
-use Rattle.skeletons.proofs.Moved.{runs-keys}
+use Rattle.skeletons.proofs.Vertices.{least-has, greatest-has, vertex-in}
+use Rattle.skeletons.proofs.Moved.{runs-keys, mirror-normal}
 use Rattle.skeleton_runs.proofs.Contiguous.{plane-contiguous}
 use Rattle.skeleton_choices.proofs.Plane.{choice-round, of-kind}
-use Rattle.skeleton_choices.proofs.Told.{rigid-three}
+use Rattle.skeleton_choices.proofs.Told.{rigid-three, bond-round}
 use Rattle.skeleton_choices.proofs.Listed.{choice-normal}
-use Rattle.skel_embed.specs.Taken.{begins_run}
+use Rattle.skel_embed.specs.Taken.{begins_run, runs_met}
 use Rattle.skel_embed.proofs.RunSteps.{Ends, some-end, end-member, next-in, before-first}
 use Rattle.skel_embed.proofs.BondMoves.{runs-arranged}
 
@@ -104,17 +104,11 @@ pub run-keys : (key : ℕ → ℕ) (l : List ℕ) (gs : List (ℕ × List ℕ)) 
 run-keys key l gs d r two = subst (IsTurn (map key (filter (begins_run key l) l))) (keys-picked key gs r.groups)
     (IsTurn-map key (filter (begins_run key l) l) (map (λ (g : ℕ × List ℕ). first_or 0 g.1) gs) (runs-picked key l gs (begins_run key l) (λ g. first_or 0 g.1) r (all-picked key l gs d r two)))
 
-module _ (g : Multigraph) (nodes : List Node) (b : IsBlockTree g nodes) (r : List (List ℕ)) (p : IsPlaneSystem g r) (k : ℕ) (l : k < length nodes) where
-  abbrev v : ℕ
-  v = least_vertex nodes k
-
-  has : has_vertex nodes k v ≡ true
-  has = least-has g nodes b k l
-
+module _ (g : Multigraph) (nodes : List Node) (b : IsBlockTree g nodes) (r : List (List ℕ)) (p : IsPlaneSystem g r) (k : ℕ) (l : k < length nodes) (v : ℕ) (has : has_vertex nodes k v ≡ true) where
   runs : (gs : List (ℕ × List ℕ)) × InRuns (group nodes k) (order_at r v) gs
   runs = plane-contiguous g nodes r b p k v has
 
-  -- a node with a choice has more than one group at its least vertex
+  -- a node with a choice has more than one group at each of its vertices
   two-rigid : (node_at nodes k).kind ≡ R → 1 < length runs.0
   two-rigid e = omega (arith, rigid-three g nodes b r k v p (l, e) has, ap length (met-runs (group nodes k) (order_at r v) runs.0 runs.1), IsTurn-length (group_keys runs.0) (from_least (group_keys runs.0)) (from_least-turn (group_keys runs.0)), length-map runs.0 (λ (h : ℕ × List ℕ). h.0))
 
@@ -130,66 +124,98 @@ module _ (g : Multigraph) (nodes : List Node) (b : IsBlockTree g nodes) (r : Lis
     length-map runs.0 (λ (h : ℕ × List ℕ). h.0),
   )
 
-  abbrev met : List ℕ
-  met = map (group nodes k) (filter (begins_run (group nodes k) (order_at r v)) (order_at r v))
-
   once : is_distinct (order_at r v) ≡ true
   once = order-distinct g r v p.system (vertex-in g nodes b k v has)
 
-  met-turn : 1 < length runs.0 → IsTurn met (group_keys runs.0)
+  met-turn : 1 < length runs.0 → IsTurn (runs_met nodes r k v) (group_keys runs.0)
   met-turn two = run-keys (group nodes k) (order_at r v) runs.0 once runs.1 two
 
-  met-member : 1 < length runs.0 → (x : ℕ) → is_member x met ≡ is_member x (keys_at nodes k v)
-  met-member two x = sym (IsTurn-member met (group_keys runs.0) x (met-turn two)) ∙ runs-keys g nodes b r k v runs.0 p.system has runs.1 x
+  met-member : 1 < length runs.0 → (x : ℕ) → is_member x (runs_met nodes r k v) ≡ is_member x (keys_at nodes k v)
+  met-member two x = sym (IsTurn-member (runs_met nodes r k v) (group_keys runs.0) x (met-turn two)) ∙ runs-keys g nodes b r k v runs.0 p.system has runs.1 x
 
-  met-round : 1 < length runs.0 → from_least met ≡ keys_round nodes r k v
-  met-round two = sym (from_least-same (group_keys runs.0) met (IsTurn-sym met (group_keys runs.0) (met-turn two)) runs.1.once) ∙ sym (met-runs (group nodes k) (order_at r v) runs.0 runs.1)
+  met-round : 1 < length runs.0 → from_least (runs_met nodes r k v) ≡ keys_round nodes r k v
+  met-round two = sym (from_least-same (group_keys runs.0) (runs_met nodes r k v) (IsTurn-sym (runs_met nodes r k v) (group_keys runs.0) (met-turn two)) runs.1.once) ∙ sym (met-runs (group nodes k) (order_at r v) runs.0 runs.1)
 
--- the choice, from the first key of another one on
-pub choice-from : (g : Multigraph) (nodes : List Node) (b : IsBlockTree g nodes) (r q : List (List ℕ)) (p : IsPlaneSystem g r) (s : IsPlaneSystem g q) (k : ℕ) (l : k < length nodes) (old : List ℕ) (kind : Kind) → (node_at nodes k).kind ≡ kind → (kind ≡ P) ⊎ (kind ≡ R) → old ≡ choice nodes q k
-    → (0 < length old) × (is_member (first_or 0 old) (met g nodes b r p k l) ≡ true) × (turned (met g nodes b r p k l) (first_or 0 old) ≡ choice nodes r k)
-choice-from g nodes b r q p s k l old kind e which o = (some, first, at)
-  where
-    v : ℕ
-    v = least_vertex nodes k
+  met-distinct : 1 < length runs.0 → is_distinct (runs_met nodes r k v) ≡ true
+  met-distinct two = IsTurn-distinct (group_keys runs.0) (runs_met nodes r k v) (IsTurn-sym (runs_met nodes r k v) (group_keys runs.0) (met-turn two)) runs.1.once
 
-    two : (t : List (List ℕ)) (pt : IsPlaneSystem g t) → 1 < length (runs g nodes b t pt k l).0
-    two t pt = elim which [
-      | inl a ↦ two-bond g nodes b t pt k l (e ∙ a)
-      | inr a ↦ two-rigid g nodes b t pt k l (e ∙ a)
-    ]
+-- the first member of a list that has one
+head-member : (l : List ℕ) → 0 < length l → is_member (first_or 0 l) l ≡ true
+head-member [] h = absurd (omega (arith, h))
+head-member (x ∷ l) h = member-head x l
 
-    kept : (keys : List ℕ) → choice_of_kind kind keys ≡ keys
-    kept keys = elim which [ inl a ↦ subst (λ (z : Kind). choice_of_kind z keys ≡ keys) (sym a) refl | inr a ↦ subst (λ (z : Kind). choice_of_kind z keys ≡ keys) (sym a) refl ]
+module _ (g : Multigraph) (nodes : List Node) (b : IsBlockTree g nodes) (r q : List (List ℕ)) (p : IsPlaneSystem g r) (s : IsPlaneSystem g q) (k : ℕ) (l : k < length nodes) (old : List ℕ)
+    (kind : Kind) (is : (node_at nodes k).kind ≡ kind) (which : (kind ≡ P) ⊎ (kind ≡ R)) (o : old ≡ choice nodes q k) where
+  abbrev v : ℕ
+  v = least_vertex nodes k
 
-    own : (t : List (List ℕ)) (pt : IsPlaneSystem g t) → choice nodes t k ≡ from_least (met g nodes b t pt k l)
-    own t pt = choice-round g nodes b t k kind e ∙ kept (keys_round nodes t k v) ∙ sym (met-round g nodes b t pt k l (two t pt))
+  has : has_vertex nodes k v ≡ true
+  has = least-has g nodes b k l
 
-    same : (x : ℕ) → is_member x (met g nodes b r p k l) ≡ is_member x old
-    same x = met-member g nodes b r p k l (two r p) x ∙ sym (ap (is_member x) (o ∙ own q s) ∙ from_least-member (met g nodes b q s k l) x ∙ met-member g nodes b q s k l (two q s) x)
+  two : (t : List (List ℕ)) (pt : IsPlaneSystem g t) → 1 < length (runs g nodes b t pt k l v has).0
+  two t pt = elim which [
+    | inl a ↦ two-bond g nodes b t pt k l v has (is ∙ a)
+    | inr a ↦ two-rigid g nodes b t pt k l v has (is ∙ a)
+  ]
 
-    some : 0 < length old
-    some = omega (
-      arith,
-      ap length (o ∙ own q s),
-      IsTurn-length (met g nodes b q s k l) (from_least (met g nodes b q s k l)) (from_least-turn (met g nodes b q s k l)),
-      IsTurn-length (met g nodes b q s k l) (group_keys (runs g nodes b q s k l).0) (met-turn g nodes b q s k l (two q s)),
-      length-map (runs g nodes b q s k l).0 (λ (h : ℕ × List ℕ). h.0),
-      two q s,
-    )
+  kept : (keys : List ℕ) → choice_of_kind kind keys ≡ keys
+  kept keys = elim which [ inl a ↦ subst (λ (z : Kind). choice_of_kind z keys ≡ keys) (sym a) refl | inr a ↦ subst (λ (z : Kind). choice_of_kind z keys ≡ keys) (sym a) refl ]
 
-    written : from_least old ≡ old
-    written = ap from_least o ∙ (choice-normal g nodes b q k s l).1 ∙ sym o
+  round-own : (t : List (List ℕ)) → choice nodes t k ≡ keys_round nodes t k v
+  round-own t = choice-round g nodes b t k kind is ∙ kept (keys_round nodes t k v)
 
-    head : (l : List ℕ) → 0 < length l → is_member (first_or 0 l) l ≡ true
-    head [] h = absurd (omega (arith, h))
-    head (x ∷ l) h = member-head x l
+  own : (t : List (List ℕ)) (pt : IsPlaneSystem g t) → choice nodes t k ≡ from_least (runs_met nodes t k v)
+  own t pt = round-own t ∙ sym (met-round g nodes b t pt k l v has (two t pt))
 
-    first : is_member (first_or 0 old) (met g nodes b r p k l) ≡ true
-    first = same (first_or 0 old) ∙ head old some
+  members : (t : List (List ℕ)) (pt : IsPlaneSystem g t) (x : ℕ) → is_member x (choice nodes t k) ≡ is_member x (keys_at nodes k v)
+  members t pt x = ap (is_member x) (own t pt) ∙ from_least-member (runs_met nodes t k v) x ∙ met-member g nodes b t pt k l v has (two t pt) x
 
-    at : turned (met g nodes b r p k l) (first_or 0 old) ≡ choice nodes r k
-    at = ap (turned (met g nodes b r p k l)) (sym (least-same (met g nodes b r p k l) old same ∙ sym (from_least-first_or old (first_or 0 old) (head old some)) ∙ ap (first_or 0) written)) ∙ sym (own r p)
+  some : 0 < length old
+  some = omega (
+    arith,
+    ap length (o ∙ own q s),
+    IsTurn-length (runs_met nodes q k v) (from_least (runs_met nodes q k v)) (from_least-turn (runs_met nodes q k v)),
+    IsTurn-length (runs_met nodes q k v) (group_keys (runs g nodes b q s k l v has).0) (met-turn g nodes b q s k l v has (two q s)),
+    length-map (runs g nodes b q s k l v has).0 (λ (h : ℕ × List ℕ). h.0),
+    two q s,
+  )
+
+  written : from_least old ≡ old
+  written = ap from_least o ∙ (choice-normal g nodes b q k s l).1 ∙ sym o
+
+  -- keys in the cyclic order of the choice, from the first of another choice on
+  begun : (met : List ℕ) → choice nodes r k ≡ from_least met → (0 < length old) × (is_member (first_or 0 old) met ≡ true) × (turned met (first_or 0 old) ≡ choice nodes r k)
+  begun met e = (some, same (first_or 0 old) ∙ head-member old some,
+      ap (turned met) (sym (least-same met old same ∙ sym (from_least-first_or old (first_or 0 old) (head-member old some)) ∙ ap (first_or 0) written)) ∙ sym e)
+    where
+      same : (x : ℕ) → is_member x met ≡ is_member x old
+      same x = sym (from_least-member met x) ∙ ap (is_member x) (sym e) ∙ members r p x ∙ sym (ap (is_member x) o ∙ members q s x)
+
+  -- the keys at the least vertex
+  pub choice-from : (0 < length old) × (is_member (first_or 0 old) (runs_met nodes r k v) ≡ true) × (turned (runs_met nodes r k v) (first_or 0 old) ≡ choice nodes r k)
+  choice-from = begun (runs_met nodes r k v) (own r p)
+
+  -- those at the greater pole of a bond, in reverse
+  module _ (bond : kind ≡ P) where
+    abbrev far : ℕ
+    far = greatest_vertex nodes k
+
+    far-has : has_vertex nodes k far ≡ true
+    far-has = greatest-has g nodes b k l
+
+    far-two : 1 < length (runs g nodes b r p k l far far-has).0
+    far-two = two-bond g nodes b r p k l far far-has (is ∙ bond)
+
+    far-own : choice nodes r k ≡ from_least (reverse (runs_met nodes r k far))
+    far-own =
+        let c = choice nodes r k in
+        let normal = choice-normal g nodes b r k p l in
+        let round : from_least (runs_met nodes r k far) ≡ from_least (reverse c) = met-round g nodes b r p k l far far-has far-two ∙ bond-round g nodes b r k p (l, is ∙ bond) ∙ ap (λ (z : List ℕ). from_least (reverse z)) (sym (round-own r)) in
+        let twice : from_least (reverse (from_least (reverse c))) ≡ c = mirror-normal (reverse c) (distinct-reverse c normal.0) ∙ ap from_least (reverse-reverse c) ∙ normal.1 in
+        sym (sym (mirror-normal (runs_met nodes r k far) (met-distinct g nodes b r p k l far far-has far-two)) ∙ ap (λ (z : List ℕ). from_least (reverse z)) round ∙ twice)
+
+    pub choice-from_far : (0 < length old) × (is_member (first_or 0 old) (reverse (runs_met nodes r k far)) ≡ true) × (turned (reverse (runs_met nodes r k far)) (first_or 0 old) ≡ choice nodes r k)
+    choice-from_far = begun (reverse (runs_met nodes r k far)) far-own
 
 -- one edge more on the way round
 filter-first : (p : ℕ → Bool) (x : ℕ) (xs : List ℕ) → p x ≡ true → filter p (x ∷ xs) ≡ x ∷ filter p xs

@@ -1,11 +1,12 @@
 -- Lists of edges that become the rotation system of a block, and why they do not.
-use Rattle.std.specs.Prelude.{◌≡◌, ◌≢◌, ℕ, ◌+◌, ◌<◌, Bool, true, not, ◌==◌, List, [], length, map, slice_index, slice_index_or}
+use Rattle.std.specs.Prelude.{◌≡◌, ◌≢◌, ℕ, ◌+◌, ◌<◌, Bool, true, not, ◌==◌, List, [], length, map, filter, slice_index, slice_index_or}
 use Rattle.permutations.specs.Cyclic.{predecessor}
 use Rattle.multigraph.specs.Graph.{edge_count}
 use Rattle.multigraph.specs.Part.{GraphPart}
 use Rattle.rotations.specs.Rotation.{order_at, IsRotationSystem}
 use Rattle.rotations.specs.PartLists.{ArrangePart, IsFirstBadInPart, outer_order}
 use Rattle.faces.specs.Euler.{face_count, IsPlaneSystem}
+use Rattle.pair_split.specs.Tutte.{Node, group}
 use Rattle.skeletons.specs.Choices.{choice}
 use Rattle.skel_embed.specs.Block.{BlockState, lock_at}
 use Rattle.skel_embed.specs.declared.taking.TakeFault.{TakeFault}
@@ -57,6 +58,10 @@ IsTakeRefusal s part entries Memory = Unit {0}
 -- whether another key is before e in the cyclic order l
 abbrev pub begins_run : (ℕ → ℕ) → List ℕ → ℕ → Bool
 begins_run key l e = not (key (predecessor l e) == key e)
+
+-- the keys of the runs around v by the groups of node k, in the order in which these are met
+abbrev pub runs_met : List Node → List (List ℕ) → ℕ → ℕ → List ℕ
+runs_met nodes r k v = map (group nodes k) (filter (begins_run (group nodes k) (order_at r v)) (order_at r v))
 
 -- no locked node has another choice in the second list of choices than in the first
 abbrev pub NoneOther : List Bool → List (List ℕ) → List (List ℕ) → Type 0

@@ -1,16 +1,16 @@
 // The choices of another plane rotation system of a block.
 
-ghost use Rattle.std.specs.Prelude.{◌≡◌, ◌≢◌, ◌<◌, ◌↔◌, ◌⊎◌, ℕ, List, true, length, map, filter, IfOk, IsTrue, MatchOption};
+ghost use Rattle.std.specs.Prelude.{◌≡◌, ◌≢◌, ◌<◌, ◌↔◌, ◌⊎◌, ℕ, List, true, length, IfOk, IsTrue, MatchOption};
 ghost use Rattle.permutations.specs.Cyclic.{turned};
 ghost use Rattle.permutations.specs.Members.{is_member};
-ghost use Rattle.rotations.specs.Rotation.{order_at};
-ghost use Rattle.pair_split.specs.Tutte.{node_at, group};
+ghost use Rattle.pair_split.specs.Tutte.{node_at};
 ghost use Rattle.pair_split.specs.declared.components.Kind.TheVariants.{P, R};
-ghost use Rattle.skeletons.specs.Items.{IsBlockTree, least_vertex};
+ghost use Rattle.skeletons.specs.Items.{has_vertex, IsBlockTree};
 ghost use Rattle.faces.specs.Euler.{IsPlaneSystem};
 ghost use Rattle.skeletons.specs.Choices.{choice};
 ghost use Rattle.skel_embed.specs.Block.{AreChoices};
-ghost use Rattle.skel_embed.specs.Taken.{begins_run, IsFirstOther, NoneOther};
+ghost use Rattle.skeletons.specs.Moves.{IsNodeOfKind};
+ghost use Rattle.skel_embed.specs.Taken.{runs_met, IsFirstOther, NoneOther};
 
 use crate::choices::Choices;
 use crate::kept::{Kept, place_of};
@@ -20,22 +20,21 @@ use rotations::Rotation;
 use spqr_tree::Tree;
 use std::alloc::{AllocError, Global};
 
-// The keys of the runs around the least vertex of node k, which has a choice, from any run on.
+// The keys of the runs around a vertex of node k, which has a choice, from any run on.
 fn keys_of_runs(
     alloc: Global,
     g: &Graph,
     t: &Tree,
     r: &Rotation,
     k: u32,
+    v: u32,
 ) -> Result<Vec<u32>, AllocError>
     requires block { IsBlockTree g.now t.now }
     requires node { k < length t.now }
     requires plane { IsPlaneSystem g.now r.now }
-    ensures { IfOk result (λ keys. keys.items ≡ map (group t.now k)
-        (filter (begins_run (group t.now k) (order_at r.now (least_vertex t.now k)))
-        (order_at r.now (least_vertex t.now k)))) }
+    requires vertex { has_vertex t.now k v ≡ true }
+    ensures { IfOk result (λ keys. keys.items ≡ runs_met t.now r.now k v) }
 {
-    let v = t.vertices(k)[0];
     let mut keys = Vec::new(alloc);
     let mut round = r.list(v);
     while let Some(e) = round.next() {
@@ -71,7 +70,33 @@ fn keys_from(
     requires old { (q : List (List ℕ)) × IsPlaneSystem g.now q × (old.now ≡ choice t.now q k) }
     ensures { IfOk result (λ keys. keys.items ≡ choice t.now r.now k) }
 {
-    let mut keys = keys_of_runs(alloc, g, t, r, k)?;
+    let mut keys = keys_of_runs(alloc, g, t, r, k, t.vertices(k)[0])?;
+    begin_with(&mut keys, old[0]);
+    Ok(keys)
+}
+
+// The choice of the bond k, read around the pole that has fewer edges: around the greater one its keys are in reverse.
+fn bond_keys(
+    alloc: Global,
+    g: &Graph,
+    t: &Tree,
+    r: &Rotation,
+    k: u32,
+    old: &[u32],
+) -> Result<Vec<u32>, AllocError>
+    requires block { IsBlockTree g.now t.now }
+    requires node { IsNodeOfKind t.now k P }
+    requires plane { IsPlaneSystem g.now r.now }
+    requires old { (q : List (List ℕ)) × IsPlaneSystem g.now q × (old.now ≡ choice t.now q k) }
+    ensures { IfOk result (λ keys. keys.items ≡ choice t.now r.now k) }
+{
+    let vertices = t.vertices(k);
+    let far = vertices[vertices.len() - 1];
+    if g.degree(vertices[0]) <= g.degree(far) {
+        return keys_from(alloc, g, t, r, k, old);
+    }
+    let mut keys = keys_of_runs(alloc, g, t, r, k, far)?;
+    keys.reverse();
     begin_with(&mut keys, old[0]);
     Ok(keys)
 }
@@ -92,7 +117,8 @@ fn choice_of(
     ensures { IfOk result (λ keys. keys.items ≡ choice t.now r.now k) }
 {
     match t.kind(k) {
-        Kind::P | Kind::R => Ok(keys_from(alloc, g, t, r, k, old)?),
+        Kind::P => bond_keys(alloc, g, t, r, k, old),
+        Kind::R => keys_from(alloc, g, t, r, k, old),
         Kind::S | Kind::B => Ok(Vec::new(alloc)),
     }
 }

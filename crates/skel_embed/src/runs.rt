@@ -1,7 +1,8 @@
 // Runs of edges of one group around a vertex of a node, found and moved elsewhere. No memory is taken.
 
-ghost use Rattle.std.specs.Prelude.{◌≡◌, ◌≢◌, ◌<◌, ℕ, length};
+ghost use Rattle.std.specs.Prelude.{◌≡◌, ◌≢◌, ◌<◌, ◌↔◌, ℕ, true, length, IsTrue};
 ghost use Rattle.permutations.specs.Cyclic.{successor};
+ghost use Rattle.permutations.specs.Members.{is_member};
 ghost use Rattle.rotations.specs.Rotation.{order_at, IsRotationSystem};
 ghost use Rattle.rotations.specs.Runs.{IsOutside, IsKeptElsewhere};
 ghost use Rattle.pair_split.specs.Tutte.{group};
@@ -48,7 +49,19 @@ pub(crate) fn run_end(g: &Graph, t: &Tree, r: &Rotation, k: u32, v: u32, e: u32,
     unreachable!()
 }
 
-// The first edge of the run around v whose edges have this key.
+// Whether e is the first edge of the run around v whose edges have this key.
+fn is_first(g: &Graph, t: &Tree, r: &Rotation, k: u32, v: u32, e: u32, key: u32) -> bool
+    requires block { IsBlockTree g.now t.now }
+    requires node { k < length t.now }
+    requires system { IsRotationSystem g.now r.now }
+    requires vertex { v < g.now.vertex_count }
+    requires around { is_member e (order_at r.now v) ≡ true }
+    ensures { IsTrue result ↔ BeginsRun (group t.now k) (order_at r.now v) key e }
+{
+    t.group(k, e) == key && t.group(k, r.pred(v, e)) != key
+}
+
+// The first edge of the run around v whose edges have this key. Where it is the least edge of its group, it is found at once.
 pub(crate) fn run_first(g: &Graph, t: &Tree, r: &Rotation, k: u32, v: u32, key: u32) -> u32
     requires block { IsBlockTree g.now t.now }
     requires node { k < length t.now }
@@ -57,8 +70,14 @@ pub(crate) fn run_first(g: &Graph, t: &Tree, r: &Rotation, k: u32, v: u32, key: 
     requires begins { (first : ℕ) × BeginsRun (group t.now k) (order_at r.now v) key first }
     ensures { BeginsRun (group t.now k) (order_at r.now v) key result }
 {
-    for e in g.incident(v) {
-        if t.group(k, *e) == key && t.group(k, r.pred(v, *e)) != key {
+    let edges = g.incident(v);
+    if let Ok(place) = edges.binary_search(&key) {
+        if is_first(g, t, r, k, v, edges[place], key) {
+            return edges[place];
+        }
+    }
+    for e in edges {
+        if is_first(g, t, r, k, v, *e, key) {
             return *e;
         }
     }

@@ -135,7 +135,7 @@ module _ (g : Multigraph) (nodes : List Node) (b : IsBlockTree g nodes) where
       ]
 
   -- the keys at both poles of a bond
-  bond-round : (r : List (List ℕ)) (k : ℕ) → IsPlaneSystem g r → IsNodeOfKind nodes k P → keys_round nodes r k (greatest_vertex nodes k) ≡ from_least (reverse (keys_round nodes r k (least_vertex nodes k)))
+  pub bond-round : (r : List (List ℕ)) (k : ℕ) → IsPlaneSystem g r → IsNodeOfKind nodes k P → keys_round nodes r k (greatest_vertex nodes k) ≡ from_least (reverse (keys_round nodes r k (least_vertex nodes k)))
   bond-round r k p is =
       let l : k < length nodes = is.0 in
       let x : Parts g nodes b r = parts g nodes b r p in
