@@ -1,6 +1,6 @@
 // Runs of edges of one group around a vertex of a node, found and moved elsewhere. No memory is taken.
 
-ghost use Rattle.std.specs.Prelude.{◌≡◌, ◌≢◌, ◌<◌, ◌↔◌, ℕ, true, length, IsTrue};
+ghost use Rattle.std.specs.Prelude.{◌≡◌, ◌≢◌, ◌<◌, ◌↔◌, ℕ, true, length, IfSome, IsTrue};
 ghost use Rattle.permutations.specs.Cyclic.{successor};
 ghost use Rattle.permutations.specs.Members.{is_member};
 ghost use Rattle.rotations.specs.Rotation.{order_at, IsRotationSystem};
@@ -10,8 +10,12 @@ ghost use Rattle.skeletons.specs.Items.{IsBlockTree};
 ghost use Rattle.skel_embed.specs.Steps.{EndsRun, BeginsRun, IsPut};
 
 use multigraph::Graph;
+use pair_split::{Item, What};
 use rotations::Rotation;
 use spqr_tree::Tree;
+
+// How many items of a node are looked at for an edge at a pole.
+const FEW: usize = 8;
 
 // The end of a run around a vertex: its last edge, and the edge after it with the key of its group.
 #[derive(Clone, Copy)]
@@ -61,7 +65,66 @@ fn is_first(g: &Graph, t: &Tree, r: &Rotation, k: u32, v: u32, e: u32, key: u32)
     t.group(k, e) == key && t.group(k, r.pred(v, e)) != key
 }
 
-// The first edge of the run around v whose edges have this key. Where it is the least edge of its group, it is found at once.
+// Whether e is at v, and the first edge of the run whose edges have this key.
+fn is_first_at(g: &Graph, t: &Tree, r: &Rotation, k: u32, v: u32, e: u32, key: u32) -> bool
+    requires block { IsBlockTree g.now t.now }
+    requires node { k < length t.now }
+    requires system { IsRotationSystem g.now r.now }
+    requires vertex { v < g.now.vertex_count }
+    ensures { result ≡ true → BeginsRun (group t.now k) (order_at r.now v) key e }
+{
+    match g.incident(v).binary_search(&e) {
+        Ok(_place) => is_first(g, t, r, k, v, e, key),
+        Err(_place) => false,
+    }
+}
+
+// The node beyond the item of node k with this key, if it is a link to one.
+fn node_beyond(t: &Tree, k: u32, key: u32) -> Option<u32>
+    requires { k < length t.now }
+    ensures { IfSome result (λ j. j < length t.now) }
+{
+    let items = t.items(k);
+    let Ok(place) = items.binary_search_by_key(&key, |item| item.key) else {
+        return None;
+    };
+    match items[place].what {
+        What::Link(j) if j < t.node_count() => Some(j),
+        _ => None,
+    }
+}
+
+// The items of the node beyond the item of node k with this key, if they are few.
+fn few_beyond(t: &Tree, k: u32, key: u32) -> &[Item]
+    requires { k < length t.now }
+{
+    match node_beyond(t, k, key) {
+        Some(j) if t.items(j).len() <= FEW => t.items(j),
+        _ => &[],
+    }
+}
+
+// The first edge of the run around v whose edges have this key, if it is the least edge of its group, or is among few items of the node
+// beyond.
+fn first_nearby(g: &Graph, t: &Tree, r: &Rotation, k: u32, v: u32, key: u32) -> Option<u32>
+    requires block { IsBlockTree g.now t.now }
+    requires node { k < length t.now }
+    requires system { IsRotationSystem g.now r.now }
+    requires vertex { v < g.now.vertex_count }
+    ensures { IfSome result (BeginsRun (group t.now k) (order_at r.now v) key) }
+{
+    if is_first_at(g, t, r, k, v, key, key) {
+        return Some(key);
+    }
+    for item in few_beyond(t, k, key) {
+        if is_first_at(g, t, r, k, v, item.key, key) {
+            return Some(item.key);
+        }
+    }
+    None
+}
+
+// The first edge of the run around v whose edges have this key. Often it is found without a look at all edges at v.
 pub(crate) fn run_first(g: &Graph, t: &Tree, r: &Rotation, k: u32, v: u32, key: u32) -> u32
     requires block { IsBlockTree g.now t.now }
     requires node { k < length t.now }
@@ -70,13 +133,10 @@ pub(crate) fn run_first(g: &Graph, t: &Tree, r: &Rotation, k: u32, v: u32, key: 
     requires begins { (first : ℕ) × BeginsRun (group t.now k) (order_at r.now v) key first }
     ensures { BeginsRun (group t.now k) (order_at r.now v) key result }
 {
-    let edges = g.incident(v);
-    if let Ok(place) = edges.binary_search(&key) {
-        if is_first(g, t, r, k, v, edges[place], key) {
-            return edges[place];
-        }
+    if let Some(e) = first_nearby(g, t, r, k, v, key) {
+        return e;
     }
-    for e in edges {
+    for e in g.incident(v) {
         if is_first(g, t, r, k, v, *e, key) {
             return *e;
         }
