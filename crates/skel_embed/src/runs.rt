@@ -65,17 +65,18 @@ fn is_first(g: &Graph, t: &Tree, r: &Rotation, k: u32, v: u32, e: u32, key: u32)
     t.group(k, e) == key && t.group(k, r.pred(v, e)) != key
 }
 
-// Whether e is at v, and the first edge of the run whose edges have this key.
-fn is_first_at(g: &Graph, t: &Tree, r: &Rotation, k: u32, v: u32, e: u32, key: u32) -> bool
+// The edge e, if it is at v and the first of the run whose edges have this key.
+fn first_at(g: &Graph, t: &Tree, r: &Rotation, k: u32, v: u32, e: u32, key: u32) -> Option<u32>
     requires block { IsBlockTree g.now t.now }
     requires node { k < length t.now }
     requires system { IsRotationSystem g.now r.now }
     requires vertex { v < g.now.vertex_count }
-    ensures { result ≡ true → BeginsRun (group t.now k) (order_at r.now v) key e }
+    ensures { IfSome result (BeginsRun (group t.now k) (order_at r.now v) key) }
 {
-    match g.incident(v).binary_search(&e) {
-        Ok(_place) => is_first(g, t, r, k, v, e, key),
-        Err(_place) => false,
+    let edges = g.incident(v);
+    match edges.binary_search(&e) {
+        Ok(place) if is_first(g, t, r, k, v, edges[place], key) => Some(edges[place]),
+        _ => None,
     }
 }
 
@@ -113,12 +114,12 @@ fn first_nearby(g: &Graph, t: &Tree, r: &Rotation, k: u32, v: u32, key: u32) -> 
     requires vertex { v < g.now.vertex_count }
     ensures { IfSome result (BeginsRun (group t.now k) (order_at r.now v) key) }
 {
-    if is_first_at(g, t, r, k, v, key, key) {
-        return Some(key);
+    if let Some(first) = first_at(g, t, r, k, v, key, key) {
+        return Some(first);
     }
     for item in few_beyond(t, k, key) {
-        if is_first_at(g, t, r, k, v, item.key, key) {
-            return Some(item.key);
+        if let Some(first) = first_at(g, t, r, k, v, item.key, key) {
+            return Some(first);
         }
     }
     None
