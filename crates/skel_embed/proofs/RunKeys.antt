@@ -164,16 +164,16 @@ module _ (g : Multigraph) (nodes : List Node) (b : IsBlockTree g nodes) (r q : L
   round-own : (t : List (List ℕ)) → choice nodes t k ≡ keys_round nodes t k v
   round-own t = choice-round g nodes b t k kind is ∙ kept (keys_round nodes t k v)
 
-  own : (t : List (List ℕ)) (pt : IsPlaneSystem g t) → choice nodes t k ≡ from_least (runs_met nodes t k v)
-  own t pt = round-own t ∙ sym (met-round g nodes b t pt k l v has (two t pt))
+  choice-met : (t : List (List ℕ)) (pt : IsPlaneSystem g t) → choice nodes t k ≡ from_least (runs_met nodes t k v)
+  choice-met t pt = round-own t ∙ sym (met-round g nodes b t pt k l v has (two t pt))
 
   members : (t : List (List ℕ)) (pt : IsPlaneSystem g t) (x : ℕ) → is_member x (choice nodes t k) ≡ is_member x (keys_at nodes k v)
-  members t pt x = ap (is_member x) (own t pt) ∙ from_least-member (runs_met nodes t k v) x ∙ met-member g nodes b t pt k l v has (two t pt) x
+  members t pt x = ap (is_member x) (choice-met t pt) ∙ from_least-member (runs_met nodes t k v) x ∙ met-member g nodes b t pt k l v has (two t pt) x
 
   some : 0 < length old
   some = omega (
     arith,
-    ap length (o ∙ own q s),
+    ap length (o ∙ choice-met q s),
     IsTurn-length (runs_met nodes q k v) (from_least (runs_met nodes q k v)) (from_least-turn (runs_met nodes q k v)),
     IsTurn-length (runs_met nodes q k v) (group_keys (runs g nodes b q s k l v has).0) (met-turn g nodes b q s k l v has (two q s)),
     length-map (runs g nodes b q s k l v has).0 (λ (h : ℕ × List ℕ). h.0),
@@ -193,7 +193,7 @@ module _ (g : Multigraph) (nodes : List Node) (b : IsBlockTree g nodes) (r q : L
 
   -- the keys at the least vertex
   pub choice-from : (0 < length old) × (is_member (first_or 0 old) (runs_met nodes r k v) ≡ true) × (turned (runs_met nodes r k v) (first_or 0 old) ≡ choice nodes r k)
-  choice-from = begun (runs_met nodes r k v) (own r p)
+  choice-from = begun (runs_met nodes r k v) (choice-met r p)
 
   -- those at the greater pole of a bond, in reverse
   module _ (bond : kind ≡ P) where

@@ -12,6 +12,6 @@ group-requires-clause-tree c = edge-below c.args.g.now c.args.t.now c.args.r.now
 pub pred-requires : goal.pred-requires
 pred-requires c = contains-from_member (order_at c.args.r.now c.args.v) c.args.e c.requires.around
 
-pub group-2-requires-clause-tree : goal.group-2-requires-clause-tree
-group-2-requires-clause-tree c = edge-below c.args.g.now c.args.t.now c.args.r.now c.args.v c.pred.result c.requires.block c.requires.system c.requires.vertex
+pub group-requires-then-group-key-clause-tree : goal.group-requires-then-group-key-clause-tree
+group-requires-then-group-key-clause-tree c = edge-below c.args.g.now c.args.t.now c.args.r.now c.args.v c.pred.result c.requires.block c.requires.system c.requires.vertex
     (subst (λ z. is_member z (order_at c.args.r.now c.args.v) ≡ true) (sym c.pred.ensures) (predecessor-member (order_at c.args.r.now c.args.v) c.args.e c.requires.around))
