@@ -7,6 +7,7 @@ use Rattle.std.proofs.lemmas.List.Sorted.{length_permutation}
 use Rattle.permutations.specs.Cyclic.{first_or, predecessor, from_least, turned, IsTurn}
 use Rattle.permutations.specs.Members.{is_member, is_distinct}
 use Rattle.permutations.specs.Runs.{joined, group_keys, IsGroup, InRuns}
+use Rattle.permutations.proofs.Arrangements.{length-from_members}
 use Rattle.permutations.proofs.Filter.{filter-all, filter-none}
 use Rattle.permutations.proofs.Members.{member-head, member-cases, member-append_right, member-tail, CutAt, cut_at}
 use Rattle.permutations.proofs.NormalForm.{from_least-same, from_least-turn, from_least-member, from_least-first_or, least-same}
@@ -19,7 +20,7 @@ use Rattle.faces.proofs.DartLemmas.{order-distinct}
 use Rattle.pair_split.specs.Tutte.{Node, node_at, group, components, piece_of}
 use Rattle.pair_split.specs.Split.{items_of, piece_ends}
 use Rattle.pair_split.specs.declared.components.Kind.{Kind}
-use Rattle.pair_split.specs.declared.components.Kind.TheVariants.{P, R}
+use Rattle.pair_split.specs.declared.components.Kind.TheVariants.{S, P, R, B}
 use Rattle.pair_split.proofs.NodeParts.{node-pieces}
 use Rattle.skeletons.specs.Items.{node_keys, keys_at, has_vertex, least_vertex, item_key, IsBlockTree}
 use Rattle.faces.specs.Euler.{IsPlaneSystem}
@@ -145,25 +146,47 @@ module _ (g : Multigraph) (nodes : List Node) (b : IsBlockTree g nodes) (r : Lis
   met-round : 1 < length runs.0 → from_least met ≡ keys_round nodes r k v
   met-round two = sym (from_least-same (group_keys runs.0) met (IsTurn-sym met (group_keys runs.0) (met-turn two)) runs.1.once) ∙ sym (met-runs (group nodes k) (order_at r v) runs.0 runs.1)
 
+-- a node with a choice
+module _ (g : Multigraph) (nodes : List Node) (b : IsBlockTree g nodes) (k : ℕ) (l : k < length nodes) (kind : Kind) (e : (node_at nodes k).kind ≡ kind) (which : (kind ≡ P) ⊎ (kind ≡ R)) where
+  two-groups : (t : List (List ℕ)) (pt : IsPlaneSystem g t) → 1 < length (runs g nodes b t pt k l).0
+  two-groups t pt = elim which [
+    | inl a ↦ two-bond g nodes b t pt k l (e ∙ a)
+    | inr a ↦ two-rigid g nodes b t pt k l (e ∙ a)
+  ]
+
+  kept-keys : (keys : List ℕ) → choice_of_kind kind keys ≡ keys
+  kept-keys keys = elim which [ inl a ↦ subst (λ (z : Kind). choice_of_kind z keys ≡ keys) (sym a) refl | inr a ↦ subst (λ (z : Kind). choice_of_kind z keys ≡ keys) (sym a) refl ]
+
+  own-choice : (t : List (List ℕ)) (pt : IsPlaneSystem g t) → choice nodes t k ≡ from_least (met g nodes b t pt k l)
+  own-choice t pt = choice-round g nodes b t k kind e ∙ kept-keys (keys_round nodes t k (least_vertex nodes k)) ∙ sym (met-round g nodes b t pt k l (two-groups t pt))
+
+  choice-member : (t : List (List ℕ)) (pt : IsPlaneSystem g t) (x : ℕ) → is_member x (choice nodes t k) ≡ is_member x (keys_at nodes k (least_vertex nodes k))
+  choice-member t pt x = ap (is_member x) (own-choice t pt) ∙ from_least-member (met g nodes b t pt k l) x ∙ met-member g nodes b t pt k l (two-groups t pt) x
+
+-- it has as many keys in each plane rotation system
+pub choice-long : (g : Multigraph) (nodes : List Node) (b : IsBlockTree g nodes) (r q : List (List ℕ)) (p : IsPlaneSystem g r) (s : IsPlaneSystem g q) (k : ℕ) → k < length nodes → length (choice nodes r k) ≡ length (choice nodes q k)
+choice-long g nodes b r q p s k l = by_kind (node_at nodes k).kind refl
+  where
+    round-long : (kind : Kind) → (node_at nodes k).kind ≡ kind → (kind ≡ P) ⊎ (kind ≡ R) → length (choice nodes r k) ≡ length (choice nodes q k)
+    round-long kind e which = length-from_members (choice nodes r k) (choice nodes q k) (choice-normal g nodes b r k p l).0 (choice-normal g nodes b q k s l).0
+        (λ z. choice-member g nodes b k l kind e which r p z ∙ sym (choice-member g nodes b k l kind e which q s z))
+
+    by_kind : (kind : Kind) → (node_at nodes k).kind ≡ kind → length (choice nodes r k) ≡ length (choice nodes q k)
+    by_kind P e = round-long P e (inl refl)
+    by_kind R e = round-long R e (inr refl)
+    by_kind S e = ap length (choice-round g nodes b r k S e ∙ sym (choice-round g nodes b q k S e))
+    by_kind B e = ap length (choice-round g nodes b r k B e ∙ sym (choice-round g nodes b q k B e))
+
 -- the choice, from the first key of another one on
 pub choice-from : (g : Multigraph) (nodes : List Node) (b : IsBlockTree g nodes) (r q : List (List ℕ)) (p : IsPlaneSystem g r) (s : IsPlaneSystem g q) (k : ℕ) (l : k < length nodes) (old : List ℕ) (kind : Kind) → (node_at nodes k).kind ≡ kind → (kind ≡ P) ⊎ (kind ≡ R) → old ≡ choice nodes q k
     → (0 < length old) × (is_member (first_or 0 old) (met g nodes b r p k l) ≡ true) × (turned (met g nodes b r p k l) (first_or 0 old) ≡ choice nodes r k)
 choice-from g nodes b r q p s k l old kind e which o = (some, first, at)
   where
-    v : ℕ
-    v = least_vertex nodes k
-
     two : (t : List (List ℕ)) (pt : IsPlaneSystem g t) → 1 < length (runs g nodes b t pt k l).0
-    two t pt = elim which [
-      | inl a ↦ two-bond g nodes b t pt k l (e ∙ a)
-      | inr a ↦ two-rigid g nodes b t pt k l (e ∙ a)
-    ]
-
-    kept : (keys : List ℕ) → choice_of_kind kind keys ≡ keys
-    kept keys = elim which [ inl a ↦ subst (λ (z : Kind). choice_of_kind z keys ≡ keys) (sym a) refl | inr a ↦ subst (λ (z : Kind). choice_of_kind z keys ≡ keys) (sym a) refl ]
+    two t pt = two-groups g nodes b k l kind e which t pt
 
     own : (t : List (List ℕ)) (pt : IsPlaneSystem g t) → choice nodes t k ≡ from_least (met g nodes b t pt k l)
-    own t pt = choice-round g nodes b t k kind e ∙ kept (keys_round nodes t k v) ∙ sym (met-round g nodes b t pt k l (two t pt))
+    own t pt = own-choice g nodes b k l kind e which t pt
 
     same : (x : ℕ) → is_member x (met g nodes b r p k l) ≡ is_member x old
     same x = met-member g nodes b r p k l (two r p) x ∙ sym (ap (is_member x) (o ∙ own q s) ∙ from_least-member (met g nodes b q s k l) x ∙ met-member g nodes b q s k l (two q s) x)
