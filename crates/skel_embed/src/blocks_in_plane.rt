@@ -44,11 +44,7 @@ pub enum BySkeletons {
 }
 
 // Appends the keys of the items around vertex 0 of the skeleton.
-fn append_round(
-    keys: &mut Vec<u32>,
-    items: &[Item],
-    member: &Rotation,
-) -> Result<(), AllocError>
+fn append_round(keys: &mut Vec<u32>, items: &[Item], member: &Rotation) -> Result<(), AllocError>
     requires vertex { 0 < length member.now }
     requires within { (i : ℕ) → is_member i (order_at member.now 0) ≡ true → i < length items.now }
     ensures { IfOk result (λ _. keys.new.items ≡ keys.old.items ++ map (λ i. (nth_item items.now i).key)

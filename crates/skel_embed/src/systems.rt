@@ -14,12 +14,7 @@ use rotations::{Lists, Rotation};
 use std::alloc::{AllocError, Global};
 
 // Appends the edges at v: in order at vertex 0, and in reverse order at others. `held` is used to reverse them.
-fn push_fan(
-    g: &Graph,
-    v: u32,
-    lists: &mut Lists,
-    held: &mut Vec<u32>,
-) -> Result<(), AllocError>
+fn push_fan(g: &Graph, v: u32, lists: &mut Lists, held: &mut Vec<u32>) -> Result<(), AllocError>
     requires vertex { v < g.now.vertex_count }
     requires above { IsAbove lists.old v }
     ensures { IfOk result (λ _. lists.new ≡ lists.old ++ (v, order_at (fan_lists g.now) v) ∷ []) }

@@ -1,5 +1,5 @@
-use Rattle.std.proofs.Common.{◌≡◌, ◌∙◌, ℕ, List, length, sym, ap, subst}
-use Rattle.skel_embed.specs.Block.{BlockState, IsBlockState, AreChoices}
+use Rattle.std.proofs.Common.{◌∙◌, sym, ap, subst}
+use Rattle.skel_embed.specs.Block.{BlockState, IsBlockState}
 use Rattle.skel_embed.specs.First.{IsFirst}
 use Rattle.skel_embed.specs.Flat.{lists_in, AreFlat}
 use Rattle.skel_embed.specs.Outcomes.{choices_in}

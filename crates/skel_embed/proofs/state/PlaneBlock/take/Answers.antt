@@ -1,6 +1,5 @@
-use Rattle.std.proofs.Common.{◌≡◌, ℕ, List, sym, ap, ◌∙◌, subst}
+use Rattle.std.proofs.Common.{◌≡◌, sym, subst}
 use Rattle.std.specs.List.{concat}
-use Rattle.pair_split.specs.Tutte.{Node}
 use Rattle.faces.specs.Euler.{IsPlaneSystem}
 use Rattle.skel_embed.specs.Block.{BlockState, choices_by}
 use Rattle.skel_embed.specs.Flat.{lists_in}
