@@ -1,5 +1,5 @@
 -- The lists of a fan, and its orders.
-use Rattle.std.proofs.Common.{◌≡◌, ◌≢◌, ℕ, zero, suc, ◌<◌, ◌≤◌, inl, inr, true, List, [], ◌∷◌, reverse, refl, sym, ap, ◌∙◌, subst, arith}
+use Rattle.std.proofs.Common.{◌≡◌, ◌≢◌, ℕ, zero, suc, ◌<◌, ◌≤◌, true, if◌then◌else◌, Result, Ok, Err, is_ok, IfOk, List, [], ◌∷◌, reverse, refl, sym, ap, ◌∙◌, subst, arith}
 use Rattle.std.specs.List.Sorted.{IsPermutation}
 use Rattle.std.proofs.lemmas.List.Sorted.{IsPermutation-reverse, IsPermutation-refl}
 use Rattle.std.proofs.lemmas.List.{get_or-map}
@@ -10,7 +10,7 @@ use Rattle.permutations.proofs.NormalForm.{mirror-turned, mirror-from_least}
 use Rattle.permutations.proofs.Turned.{turned-own}
 use Rattle.multigraph.specs.Graph.{Multigraph, numbers_below, incident_edges}
 use Rattle.multigraph.proofs.Below.{get_or-numbers_below, length-numbers_below}
-use Rattle.rotations.specs.Given.{given_order, IsFirstBad}
+use Rattle.rotations.specs.Given.{given_order, AreArranged}
 use Rattle.rotations.specs.Rotation.{order_at, IsRotationSystem}
 use Rattle.rotations.proofs.Membership.{incident-distinct, incident-least}
 use Rattle.skel_compose.specs.Orders.{orders_below}
@@ -30,21 +30,24 @@ pub fan-backward : (g : Multigraph) (v : ℕ) (edges : List ℕ) → v < g.verte
 fan-backward g zero edges l n e = absurd (n refl)
 fan-backward g (suc v) edges l n e = e ∙ sym (fan-at g (suc v) l)
 
+-- what is appended if memory does not run out
+pub pushed : {A E : Type 0} (r : Result A E) (new more old wanted : List (ℕ × List ℕ)) → new ≡ (if is_ok r then more else old) → more ≡ wanted → IfOk r (λ x. new ≡ wanted)
+pushed (Ok x) new more old wanted e q = e ∙ q
+pushed (Err x) new more old wanted e q = tt
+
 -- arranges its edges
 fan-arranged : (g : Multigraph) (v : ℕ) → IsPermutation (incident_edges g v) (fan_list g v)
 fan-arranged g zero = IsPermutation-refl (incident_edges g 0)
 fan-arranged g (suc v) = IsPermutation-reverse (incident_edges g (suc v))
 
--- so it isn't refused
-pub fan-not_bad : (g : Multigraph) (v : ℕ) → IsFirstBad g (orders_below (fan_lists g) g.vertex_count) v → ⊥
-fan-not_bad g v bad = elim bad.bad [
-  | inl l ↦ l.1 (subst (IsPermutation (incident_edges g v)) (sym (entries-given (fan_lists g) g.vertex_count v l.0 ∙ fan-at g v l.0)) (fan-arranged g v))
-  | inr n ↦
-      let k : ℕ = (n.1).0 in
-      let l : k < g.vertex_count = subst (λ z. k < z) (entries-number (fan_lists g) g.vertex_count) (n.1).1 in
-      let e : k ≡ v = sym (ap (λ (z : ℕ × List ℕ). z.0) (entry-at (fan_lists g) g.vertex_count k l)) ∙ (n.1).2 in
-      omega (arith, n.0, l, e)
-]
+pub fan-lists_arranged : (g : Multigraph) → AreArranged g (orders_below (fan_lists g) g.vertex_count)
+fan-lists_arranged g = record {
+  arranged = λ v l. subst (IsPermutation (incident_edges g v)) (sym (entries-given (fan_lists g) g.vertex_count v l ∙ fan-at g v l)) (fan-arranged g v);
+  vertices = λ v n.
+      let l : n.0 < g.vertex_count = subst (λ z. n.0 < z) (entries-number (fan_lists g) g.vertex_count) n.1 in
+      let e : n.0 ≡ v = sym (ap (λ (z : ℕ × List ℕ). z.0) (entry-at (fan_lists g) g.vertex_count n.0 l)) ∙ n.2 in
+      omega (arith, l, e);
+}
 
 other : (g : Multigraph) (v : ℕ) (l : List ℕ) → incident_edges g v ≡ l → turned (reverse l) (first_or 0 l) ≡ from_least (reverse l)
 other g v [] e = refl

@@ -46,7 +46,6 @@ use Rattle.skeleton_choices.proofs.Told.{choice-possible}
 use Rattle.skel_compose.proofs.Back.{keys-rise}
 use Rattle.skel_embed.specs.Fan.{IsFan, TurnsRight}
 use Rattle.skel_embed.specs.First.{choice_in, IsFirstMember, AreFirstMembers, IsFirst}
-use Rattle.skel_embed.specs.Outcomes.{AreChoicesIn}
 use Rattle.skel_embed.proofs.Lexicographic.{rising-least, mirrored-later}
 
 -- the first place is that of the first member
@@ -227,16 +226,6 @@ members-more nodes k family new s e before h = record {
     | inl q ↦ subst (λ i. IsFirstMember nodes i (system_at (family ++ s ∷ []) i)) (sym q) (subst (IsFirstMember nodes k) (sym (ap (system_at (family ++ s ∷ [])) (sym before.each) ∙ get_or-append_seam family s [] [])) h)
     | inr n ↦ let m : j < k = omega (arith, l, n) in subst (IsFirstMember nodes j) (sym (get_or-append family (s ∷ []) [] j (omega (arith, m, before.each)))) (before.members j m)
   ]);
-}
-
--- one choice more
-pub choices-more : (nodes : List Node) (k : ℕ) (family : List (List (List ℕ))) (choices new : List (List ℕ)) (keys : List ℕ) → new ≡ choices ++ keys ∷ [] → AreChoicesIn nodes family k choices → keys ≡ choice_in nodes k (system_at family k) → AreChoicesIn nodes family (k + 1) new
-choices-more nodes k family choices new keys e before h = record {
-  each = omega (arith, ap (length {A = List ℕ}) e, length-append choices (keys ∷ []), before.each);
-  is = λ j l. ap (λ (z : List (List ℕ)). slice_index_or z j []) e ∙ elim (cases_eq j k) [
-    | inl q ↦ ap (λ i. slice_index_or (choices ++ keys ∷ []) i []) (q ∙ sym before.each) ∙ get_or-append_seam choices keys [] [] ∙ h ∙ ap (λ i. choice_in nodes i (system_at family i)) (sym q)
-    | inr n ↦ let m : j < k = omega (arith, l, n) in get_or-append choices (keys ∷ []) [] j (omega (arith, m, before.each)) ∙ before.is j m
-  ];
 }
 
 -- what the comparison of kinds says

@@ -3,7 +3,7 @@ use Rattle.std.proofs.Common.{◌≡◌, ℕ, zero, suc, ◌+◌, ◌-◌, ◌<�
 use Rattle.std.specs.List.{concat}
 use Rattle.std.proofs.lemmas.List.{length-append, take-append-drop, drop_more, take_more, set_split}
 use Rattle.std.proofs.lemmas.List.Folds.{concat-append}
-use Rattle.skel_embed.specs.Flat.{ends_from, cut_from, start_at, AreFlat}
+use Rattle.skel_embed.specs.Flat.{ends_from, cut_from, lists_in, start_at, AreFlat}
 use Rattle.skel_embed.proofs.KeptLists.{take-front, drop-front}
 
 -- the lists are cut off again
@@ -34,6 +34,15 @@ ends-set [] k y place h e = absurd (omega (arith, h))
 ends-set (x ∷ xs) zero y place h e = ap (λ n. (place + n) ∷ ends_from (place + n) xs) e
 ends-set (x ∷ xs) (suc k) y place h e = ap (λ (z : List ℕ). (place + length x) ∷ z) (ends-set xs k y (place + length x) (omega (arith, h)) e)
 
+-- lists of the same lengths
+pub ends-alike : (xs ys : List (List ℕ)) (place : ℕ) → length xs ≡ length ys → ((k : ℕ) → k < length xs → length (slice_index_or xs k []) ≡ length (slice_index_or ys k [])) → ends_from place xs ≡ ends_from place ys
+ends-alike [] [] place e h = refl
+ends-alike [] (y ∷ ys) place e h = absurd (omega (arith, e))
+ends-alike (x ∷ xs) [] place e h = absurd (omega (arith, e))
+ends-alike (x ∷ xs) (y ∷ ys) place e h =
+    let n : length x ≡ length y = h 0 (omega arith) in
+    ap (λ (z : List ℕ). (place + length x) ∷ z) (ends-alike xs ys (place + length x) (omega (arith, e)) (λ k l. h (suc k) (omega (arith, l)))) ∙ ap (λ m. (place + m) ∷ ends_from (place + m) ys) n
+
 -- one list more
 ends-more : (us : List (List ℕ)) (x : List ℕ) (place : ℕ) → ends_from place (us ++ x ∷ []) ≡ ends_from place us ++ (place + length (concat us ++ x)) ∷ []
 ends-more [] x place = refl
@@ -46,7 +55,7 @@ module _ (lists : List (List ℕ)) (k : ℕ) (h : k < length lists) where
   concat-at : concat lists ≡ concat (take k lists) ++ (slice_index_or lists k [] ++ concat (drop (k + 1) lists))
   concat-at = ap concat (sym (take-append-drop k lists)) ∙ concat-append (take k lists) (drop k lists) ∙ ap (λ (z : List (List ℕ)). concat (take k lists) ++ concat z) (drop_more lists k [] h)
 
-  concat-next : concat (take (k + 1) lists) ≡ concat (take k lists) ++ slice_index_or lists k []
+  pub concat-next : concat (take (k + 1) lists) ≡ concat (take k lists) ++ slice_index_or lists k []
   concat-next = ap concat (take_more lists k [] h) ∙ concat-append (take k lists) (slice_index_or lists k [] ∷ []) ∙ ap (λ (z : List ℕ). concat (take k lists) ++ z) (append-nil (slice_index_or lists k []))
 
   pub start-next : start_at lists (k + 1) ≡ start_at lists k + length (slice_index_or lists k [])
@@ -143,3 +152,31 @@ module _ (lists : List (List ℕ)) (keys ends : List ℕ) (f : AreFlat lists key
           length-append (concat (take k lists)) (slice_index_or lists k [] ++ concat (drop (k + 1) lists)),
           length-append (slice_index_or lists k []) (concat (drop (k + 1) lists)),
         )
+
+-- the list of one node changed in the keys that are lent, where its bounds are those of the lists that were told
+module _ (keys m ends : List ℕ) (flat : AreFlat (lists_in keys ends) keys ends) (lent : m ≡ keys) (told : List (List ℕ)) (is : told ≡ lists_in keys ends) (k : ℕ) (h : k < length (lists_in keys ends)) (s e : ℕ) (starts : s ≡ start_at told k) (ends_at : e ≡ start_at told (k + 1)) where
+  lent-flat : AreFlat (lists_in keys ends) m ends
+  lent-flat = subst (λ (z : List ℕ). AreFlat (lists_in keys ends) z ends) (sym lent) flat
+
+  begins : s ≡ start_at (lists_in keys ends) k
+  begins = starts ∙ ap (λ (z : List (List ℕ)). start_at z k) is
+
+  finishes : e ≡ start_at (lists_in keys ends) (k + 1)
+  finishes = ends_at ∙ ap (λ (z : List (List ℕ)). start_at z (k + 1)) is
+
+  pub lent-piece : take (e - s) (drop s m) ≡ slice_index_or (lists_in keys ends) k []
+  lent-piece = piece-of (lists_in keys ends) m ends lent-flat k h s e begins finishes
+
+  module _ (y : List ℕ) (same : length y ≡ length (slice_index_or (lists_in keys ends) k [])) where
+    pub lent-length : length (take s m ++ (y ++ drop (e - s) (drop s m))) ≡ length m
+    lent-length = put-length (lists_in keys ends) m ends lent-flat k h s e begins finishes y same
+
+    after : AreFlat (slice_set (lists_in keys ends) k y) (take s m ++ (y ++ drop (e - s) (drop s m))) ends
+    after = flat-put (lists_in keys ends) m ends lent-flat k h s e begins finishes y same
+
+    module _ (new : List ℕ) (n : new ≡ take s m ++ (y ++ drop (e - s) (drop s m))) where
+      pub lent-again : AreFlat (lists_in new ends) new ends
+      lent-again = subst (λ (z : List ℕ). AreFlat (lists_in z ends) z ends) (sym n) (flat-again (slice_set (lists_in keys ends) k y) (take s m ++ (y ++ drop (e - s) (drop s m))) ends after)
+
+      pub lent-put : lists_in new ends ≡ slice_set (lists_in keys ends) k y
+      lent-put = ap (λ (z : List ℕ). lists_in z ends) n ∙ flat-view (slice_set (lists_in keys ends) k y) (take s m ++ (y ++ drop (e - s) (drop s m))) ends after

@@ -12,3 +12,4 @@ pub mod BondMoves
 pub mod States
 pub mod RunKeys
 pub mod Spheres
+mod KeptKeys

@@ -7,6 +7,7 @@ use Rattle.std.proofs.lemmas.List.Sorted.{length_permutation}
 use Rattle.permutations.specs.Cyclic.{first_or, predecessor, from_least, turned, IsTurn}
 use Rattle.permutations.specs.Members.{is_member, is_distinct}
 use Rattle.permutations.specs.Runs.{joined, group_keys, IsGroup, InRuns}
+use Rattle.permutations.proofs.Arrangements.{length-from_members}
 use Rattle.permutations.proofs.Filter.{filter-all, filter-none}
 use Rattle.permutations.proofs.Members.{member-head, member-cases, member-append_right, member-tail, distinct-reverse, CutAt, cut_at}
 use Rattle.permutations.proofs.NormalForm.{from_least-same, from_least-turn, from_least-member, from_least-first_or, least-same}
@@ -19,7 +20,7 @@ use Rattle.faces.proofs.DartLemmas.{order-distinct}
 use Rattle.pair_split.specs.Tutte.{Node, node_at, group, components, piece_of}
 use Rattle.pair_split.specs.Split.{items_of, piece_ends}
 use Rattle.pair_split.specs.declared.components.Kind.{Kind}
-use Rattle.pair_split.specs.declared.components.Kind.TheVariants.{P, R}
+use Rattle.pair_split.specs.declared.components.Kind.TheVariants.{S, P, R, B}
 use Rattle.pair_split.proofs.NodeParts.{node-pieces}
 use Rattle.skeletons.specs.Items.{node_keys, keys_at, has_vertex, least_vertex, greatest_vertex, item_key, IsBlockTree}
 use Rattle.faces.specs.Euler.{IsPlaneSystem}
@@ -144,6 +145,40 @@ head-member : (l : List ℕ) → 0 < length l → is_member (first_or 0 l) l ≡
 head-member [] h = absurd (omega (arith, h))
 head-member (x ∷ l) h = member-head x l
 
+-- a node with a choice
+module _ (g : Multigraph) (nodes : List Node) (b : IsBlockTree g nodes) (k : ℕ) (l : k < length nodes) (kind : Kind) (e : (node_at nodes k).kind ≡ kind) (which : (kind ≡ P) ⊎ (kind ≡ R)) where
+  two-groups : (t : List (List ℕ)) (pt : IsPlaneSystem g t) → 1 < length (runs g nodes b t pt k l (least_vertex nodes k) (least-has g nodes b k l)).0
+  two-groups t pt = elim which [
+    | inl a ↦ two-bond g nodes b t pt k l (least_vertex nodes k) (least-has g nodes b k l) (e ∙ a)
+    | inr a ↦ two-rigid g nodes b t pt k l (least_vertex nodes k) (least-has g nodes b k l) (e ∙ a)
+  ]
+
+  kept-keys : (keys : List ℕ) → choice_of_kind kind keys ≡ keys
+  kept-keys keys = elim which [ inl a ↦ subst (λ (z : Kind). choice_of_kind z keys ≡ keys) (sym a) refl | inr a ↦ subst (λ (z : Kind). choice_of_kind z keys ≡ keys) (sym a) refl ]
+
+  round-own : (t : List (List ℕ)) → choice nodes t k ≡ keys_round nodes t k (least_vertex nodes k)
+  round-own t = choice-round g nodes b t k kind e ∙ kept-keys (keys_round nodes t k (least_vertex nodes k))
+
+  own-choice : (t : List (List ℕ)) (pt : IsPlaneSystem g t) → choice nodes t k ≡ from_least (runs_met nodes t k (least_vertex nodes k))
+  own-choice t pt = round-own t ∙ sym (met-round g nodes b t pt k l (least_vertex nodes k) (least-has g nodes b k l) (two-groups t pt))
+
+  choice-member : (t : List (List ℕ)) (pt : IsPlaneSystem g t) (x : ℕ) → is_member x (choice nodes t k) ≡ is_member x (keys_at nodes k (least_vertex nodes k))
+  choice-member t pt x = ap (is_member x) (own-choice t pt) ∙ from_least-member (runs_met nodes t k (least_vertex nodes k)) x ∙ met-member g nodes b t pt k l (least_vertex nodes k) (least-has g nodes b k l) (two-groups t pt) x
+
+-- it has as many keys in each plane rotation system
+pub choice-long : (g : Multigraph) (nodes : List Node) (b : IsBlockTree g nodes) (r q : List (List ℕ)) (p : IsPlaneSystem g r) (s : IsPlaneSystem g q) (k : ℕ) → k < length nodes → length (choice nodes r k) ≡ length (choice nodes q k)
+choice-long g nodes b r q p s k l = by_kind (node_at nodes k).kind refl
+  where
+    round-long : (kind : Kind) → (node_at nodes k).kind ≡ kind → (kind ≡ P) ⊎ (kind ≡ R) → length (choice nodes r k) ≡ length (choice nodes q k)
+    round-long kind e which = length-from_members (choice nodes r k) (choice nodes q k) (choice-normal g nodes b r k p l).0 (choice-normal g nodes b q k s l).0
+        (λ z. choice-member g nodes b k l kind e which r p z ∙ sym (choice-member g nodes b k l kind e which q s z))
+
+    by_kind : (kind : Kind) → (node_at nodes k).kind ≡ kind → length (choice nodes r k) ≡ length (choice nodes q k)
+    by_kind P e = round-long P e (inl refl)
+    by_kind R e = round-long R e (inr refl)
+    by_kind S e = ap length (choice-round g nodes b r k S e ∙ sym (choice-round g nodes b q k S e))
+    by_kind B e = ap length (choice-round g nodes b r k B e ∙ sym (choice-round g nodes b q k B e))
+
 module _ (g : Multigraph) (nodes : List Node) (b : IsBlockTree g nodes) (r q : List (List ℕ)) (p : IsPlaneSystem g r) (s : IsPlaneSystem g q) (k : ℕ) (l : k < length nodes) (old : List ℕ)
     (kind : Kind) (is : (node_at nodes k).kind ≡ kind) (which : (kind ≡ P) ⊎ (kind ≡ R)) (o : old ≡ choice nodes q k) where
   abbrev v : ℕ
@@ -153,22 +188,10 @@ module _ (g : Multigraph) (nodes : List Node) (b : IsBlockTree g nodes) (r q : L
   has = least-has g nodes b k l
 
   two : (t : List (List ℕ)) (pt : IsPlaneSystem g t) → 1 < length (runs g nodes b t pt k l v has).0
-  two t pt = elim which [
-    | inl a ↦ two-bond g nodes b t pt k l v has (is ∙ a)
-    | inr a ↦ two-rigid g nodes b t pt k l v has (is ∙ a)
-  ]
-
-  kept : (keys : List ℕ) → choice_of_kind kind keys ≡ keys
-  kept keys = elim which [ inl a ↦ subst (λ (z : Kind). choice_of_kind z keys ≡ keys) (sym a) refl | inr a ↦ subst (λ (z : Kind). choice_of_kind z keys ≡ keys) (sym a) refl ]
-
-  round-own : (t : List (List ℕ)) → choice nodes t k ≡ keys_round nodes t k v
-  round-own t = choice-round g nodes b t k kind is ∙ kept (keys_round nodes t k v)
+  two t pt = two-groups g nodes b k l kind is which t pt
 
   choice-met : (t : List (List ℕ)) (pt : IsPlaneSystem g t) → choice nodes t k ≡ from_least (runs_met nodes t k v)
-  choice-met t pt = round-own t ∙ sym (met-round g nodes b t pt k l v has (two t pt))
-
-  members : (t : List (List ℕ)) (pt : IsPlaneSystem g t) (x : ℕ) → is_member x (choice nodes t k) ≡ is_member x (keys_at nodes k v)
-  members t pt x = ap (is_member x) (choice-met t pt) ∙ from_least-member (runs_met nodes t k v) x ∙ met-member g nodes b t pt k l v has (two t pt) x
+  choice-met t pt = own-choice g nodes b k l kind is which t pt
 
   some : 0 < length old
   some = omega (
@@ -189,7 +212,7 @@ module _ (g : Multigraph) (nodes : List Node) (b : IsBlockTree g nodes) (r q : L
       ap (turned met) (sym (least-same met old same ∙ sym (from_least-first_or old (first_or 0 old) (head-member old some)) ∙ ap (first_or 0) written)) ∙ sym e)
     where
       same : (x : ℕ) → is_member x met ≡ is_member x old
-      same x = sym (from_least-member met x) ∙ ap (is_member x) (sym e) ∙ members r p x ∙ sym (ap (is_member x) o ∙ members q s x)
+      same x = sym (from_least-member met x) ∙ ap (is_member x) (sym e) ∙ choice-member g nodes b k l kind is which r p x ∙ sym (ap (is_member x) o ∙ choice-member g nodes b k l kind is which q s x)
 
   -- the keys at the least vertex
   pub choice-from : (0 < length old) × (is_member (first_or 0 old) (runs_met nodes r k v) ≡ true) × (turned (runs_met nodes r k v) (first_or 0 old) ≡ choice nodes r k)
@@ -210,7 +233,7 @@ module _ (g : Multigraph) (nodes : List Node) (b : IsBlockTree g nodes) (r q : L
     far-own =
         let c = choice nodes r k in
         let normal = choice-normal g nodes b r k p l in
-        let round : from_least (runs_met nodes r k far) ≡ from_least (reverse c) = met-round g nodes b r p k l far far-has far-two ∙ bond-round g nodes b r k p (l, is ∙ bond) ∙ ap (λ (z : List ℕ). from_least (reverse z)) (sym (round-own r)) in
+        let round : from_least (runs_met nodes r k far) ≡ from_least (reverse c) = met-round g nodes b r p k l far far-has far-two ∙ bond-round g nodes b r k p (l, is ∙ bond) ∙ ap (λ (z : List ℕ). from_least (reverse z)) (sym (round-own g nodes b k l kind is which r)) in
         let twice : from_least (reverse (from_least (reverse c))) ≡ c = mirror-normal (reverse c) (distinct-reverse c normal.0) ∙ ap from_least (reverse-reverse c) ∙ normal.1 in
         sym (sym (mirror-normal (runs_met nodes r k far) (met-distinct g nodes b r p k l far far-has far-two)) ∙ ap (λ (z : List ℕ). from_least (reverse z)) round ∙ twice)
 

@@ -1,6 +1,6 @@
 -- A block in the plane: its graph, its tree, a plane rotation system, the choice of each node, and which nodes are locked.
-use Rattle.std.specs.Prelude.{◌≡◌, ℕ, ◌<◌, Bool, false, List, [], length, slice_index_or}
-use Rattle.multigraph.specs.Graph.{Multigraph}
+use Rattle.std.specs.Prelude.{◌≡◌, ℕ, ◌<◌, Bool, false, List, [], length, map, slice_index_or}
+use Rattle.multigraph.specs.Graph.{Multigraph, numbers_below}
 use Rattle.pair_split.specs.Tutte.{Node}
 use Rattle.skeletons.specs.Items.{IsBlockTree}
 use Rattle.faces.specs.Euler.{IsPlaneSystem}
@@ -17,6 +17,10 @@ pub record BlockState : Type 0 where
 -- whether node k is locked
 abbrev pub lock_at : List Bool → ℕ → Bool
 lock_at locks k = slice_index_or locks k false
+
+-- the choices of r at all nodes
+abbrev pub choices_by : List Node → List (List ℕ) → List (List ℕ)
+choices_by nodes r = map (choice nodes r) (numbers_below (length nodes))
 
 -- the list has the choices of r at the first n nodes
 pub record AreChoices (nodes : List Node) (r : List (List ℕ)) (n : ℕ) (choices : List (List ℕ)) : Type 0 where

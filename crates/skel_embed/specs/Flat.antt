@@ -12,6 +12,10 @@ abbrev pub cut_from : ℕ → List ℕ → List ℕ → List (List ℕ)
 cut_from place [] l = []
 cut_from place (e ∷ es) l = take (e - place) l ∷ cut_from e es (drop (e - place) l)
 
+-- the lists that are kept as these keys and ends
+abbrev pub lists_in : List ℕ → List ℕ → List (List ℕ)
+lists_in keys ends = cut_from 0 ends keys
+
 -- where list k begins
 abbrev pub start_at : List (List ℕ) → ℕ → ℕ
 start_at lists k = length (concat (take k lists))

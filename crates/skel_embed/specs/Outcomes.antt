@@ -1,6 +1,6 @@
 -- What is answered of a block.
-use Rattle.std.specs.Prelude.{◌≡◌, ℕ, ◌<◌, false, List, [], length, slice_index_or}
-use Rattle.multigraph.specs.Graph.{Multigraph}
+use Rattle.std.specs.Prelude.{◌≡◌, ℕ, ◌<◌, false, List, length, map}
+use Rattle.multigraph.specs.Graph.{Multigraph, numbers_below}
 use Rattle.kuratowski.specs.Subdivision.{IsWritten}
 use Rattle.pair_split.specs.Tutte.{Node}
 use Rattle.pair_split.specs.declared.components.Kind.TheVariants.{R}
@@ -17,7 +17,6 @@ abbrev pub IsFoundBySkeletons : Multigraph → List Node → BySkeletons → Typ
 IsFoundBySkeletons g nodes (Plane p) = (p.graph ≡ g) × (p.tree ≡ nodes) × IsFirst g nodes p.rotation × ((k : ℕ) → k < length nodes → lock_at p.locks k ≡ false)
 IsFoundBySkeletons g nodes (Not h t k skeleton s) = (h ≡ g) × (t ≡ nodes) × IsNodeOfKind nodes k R × (skeleton ≡ skeleton_graph nodes k) × IsWritten skeleton s.kind s.branch s.paths
 
--- the list has the choices that the first n members of the family give
-pub record AreChoicesIn (nodes : List Node) (family : List (List (List ℕ))) (n : ℕ) (choices : List (List ℕ)) : Type 0 where
-  pub each : length choices ≡ n
-  pub is : (k : ℕ) → k < n → slice_index_or choices k [] ≡ choice_in nodes k (system_at family k)
+-- the choices that the members of the family give all nodes
+abbrev pub choices_in : List Node → List (List (List ℕ)) → List (List ℕ)
+choices_in nodes family = map (λ k. choice_in nodes k (system_at family k)) (numbers_below (length nodes))

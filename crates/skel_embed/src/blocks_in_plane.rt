@@ -1,6 +1,6 @@
 // The first plane rotation system of a block, or why none exists.
 
-ghost use Rattle.std.specs.Prelude.{◌≡◌, ◌<◌, ℕ, true, false, length, map, replicate, IfOk};
+ghost use Rattle.std.specs.Prelude.{◌≡◌, ◌<◌, ◌++◌, ℕ, true, false, length, map, replicate, IfOk};
 ghost use Rattle.permutations.specs.Members.{is_member};
 ghost use Rattle.multigraph.specs.Graph.{Multigraph};
 ghost use Rattle.rotations.specs.Rotation.{order_at, IsRotationSystem};
@@ -8,12 +8,11 @@ ghost use Rattle.skeletons.specs.Items.{IsBlockTree};
 ghost use Rattle.skeletons.specs.Families.{skeleton_graph, AreSkeletonSystems};
 ghost use Rattle.skeletons.proofs.NodeItems.{nth_item};
 ghost use Rattle.skel_embed.specs.First.{choice_in, AreFirstMembers, IsFirst};
-ghost use Rattle.skel_embed.specs.Outcomes.{IsFoundBySkeletons, AreChoicesIn};
+ghost use Rattle.skel_embed.specs.Flat.{AreFlat};
+ghost use Rattle.skel_embed.specs.Outcomes.{IsFoundBySkeletons, choices_in};
 
-use crate::choices::Choices;
-use crate::kept::Kept;
 use crate::members::{Members, members_of};
-use crate::state::PlaneBlock;
+use crate::state::{Frame, PlaneBlock};
 use kuratowski::Subdivision;
 use multigraph::Graph;
 use pair_split::{Item, Kind};
@@ -44,47 +43,56 @@ pub enum BySkeletons {
     },
 }
 
-// The keys of the items around vertex 0 of the skeleton.
-fn keys_round(alloc: Global, items: &[Item], member: &Rotation) -> Result<Vec<u32>, AllocError>
+// Appends the keys of the items around vertex 0 of the skeleton.
+fn append_round(keys: &mut Vec<u32>, items: &[Item], member: &Rotation) -> Result<(), AllocError>
     requires vertex { 0 < length member.now }
     requires within { (i : ℕ) → is_member i (order_at member.now 0) ≡ true → i < length items.now }
-    ensures { IfOk result (λ keys. keys.items ≡ map (λ i. (nth_item items.now i).key)
+    ensures { IfOk result (λ _. keys.new.items ≡ keys.old.items ++ map (λ i. (nth_item items.now i).key)
         (order_at member.now 0)) }
 {
-    let mut keys = Vec::new(alloc);
     let mut round = member.list(0);
     while let Some(i) = round.next() {
         keys.push(items[i as usize].key)?;
     }
-    Ok(keys)
+    Ok(())
 }
 
-// The choice that a rotation system of its skeleton gives node k.
-fn choice_of(alloc: Global, tree: &Tree, k: u32, member: &Rotation) -> Result<Vec<u32>, AllocError>
+// Appends the choice that a rotation system of its skeleton gives node k.
+fn append_choice(
+    keys: &mut Vec<u32>,
+    tree: &Tree,
+    k: u32,
+    member: &Rotation,
+) -> Result<(), AllocError>
     requires node { k < length tree.now }
     requires block { (g : Multigraph) × IsBlockTree g tree.now }
     requires system { IsRotationSystem (skeleton_graph tree.now k) member.now }
-    ensures { IfOk result (λ keys. keys.items ≡ choice_in tree.now k member.now) }
+    ensures { IfOk result (λ _. keys.new.items ≡ keys.old.items ++ choice_in tree.now k member.now) }
 {
     match tree.kind(k) {
-        Kind::P | Kind::R => Ok(keys_round(alloc, tree.items(k), member)?),
-        Kind::S | Kind::B => Ok(Vec::new(alloc)),
+        Kind::P | Kind::R => append_round(keys, tree.items(k), member),
+        Kind::S | Kind::B => Ok(()),
     }
 }
 
-// The choices that the members give the nodes.
-fn choices_of(alloc: Global, tree: &Tree, members: &[Rotation]) -> Result<Vec<Kept>, AllocError>
+// The keys of the choices that the members give the nodes, and where each choice ends.
+fn choices_of(
+    alloc: Global,
+    tree: &Tree,
+    members: &[Rotation],
+) -> Result<(Vec<u32>, Vec<usize>), AllocError>
     requires block { (g : Multigraph) × IsBlockTree g tree.now }
     requires systems { AreSkeletonSystems tree.now members.now }
-    ensures { IfOk result (λ choices. AreChoicesIn tree.now members.now
-        (length tree.now) choices.items) }
+    ensures { IfOk result (λ kept. AreFlat (choices_in tree.now members.now)
+        kept.0.items kept.1.items) }
 {
-    let mut choices = Vec::new(alloc);
+    let mut keys = Vec::new(alloc);
+    let mut ends = Vec::with_capacity(alloc, tree.node_count() as usize)?;
     for k in 0..tree.node_count() {
-        let keys = choice_of(alloc, tree, k, &members[k as usize])?;
-        choices.push(Kept::of(keys))?;
+        append_choice(&mut keys, tree, k, &members[k as usize])?;
+        ends.push(keys.len())?;
     }
-    Ok(choices)
+    Ok((keys, ends))
 }
 
 // The block at the rotation system that is composed of first members, with no locks.
@@ -102,12 +110,17 @@ fn in_plane(
     ensures locks { IfOk result (λ p. p.locks ≡ replicate (length t) false) }
 {
     let rotation = compose(alloc, &g, &t, members)?;
-    let lists = choices_of(alloc, &t, members)?;
-    let choices = Choices::from_lists(alloc, &lists)?;
+    let (keys, ends) = choices_of(alloc, &t, members)?;
     let locks = vec![in alloc; false; t.node_count() as usize]?;
-    let graph = Rc::new(alloc, g)?;
-    let tree = Rc::new(alloc, t)?;
-    Ok(PlaneBlock::of(graph, tree, rotation, choices, locks))
+    let frame = Rc::new(
+        alloc,
+        Frame {
+            graph: g,
+            tree: t,
+            ends,
+        },
+    )?;
+    Ok(PlaneBlock::of(frame, rotation, keys, locks))
 }
 
 /// Embeds a block by the skeletons of its tree. Its rotation system is then the first plane one, in the order by the first

@@ -1,56 +1,41 @@
-// The choices of all nodes, as they are kept: the keys of one after those of the other, and where each choice ends. Each is changed in
-// place.
+// The choices of all nodes, as they are kept: the keys of one after those of the other, and where each choice ends. The keys are
+// changed in place; the ends never change.
 
-ghost use Rattle.std.specs.Prelude.{◌≡◌, ◌+◌, ◌<◌, ◌≤◌, [], true, length, map, slice_index_or, slice_set, IfOk};
+ghost use Rattle.std.specs.Prelude.{◌≡◌, ◌+◌, ◌<◌, ◌≤◌, [], true, length, map, slice_index_or, slice_set};
 ghost use Rattle.std.specs.List.{concat};
 ghost use Rattle.permutations.specs.Cyclic.{from_least};
 ghost use Rattle.permutations.specs.Members.{is_member, is_distinct};
 ghost use Rattle.skel_embed.specs.Exchanges.{exchanged, turned_choice, AreWritten};
-ghost use Rattle.skel_embed.specs.Flat.{start_at};
+ghost use Rattle.skel_embed.specs.Flat.{start_at, lists_in, AreFlat};
 
-use crate::kept::{Kept, exchange, turn_round};
-use std::alloc::{AllocError, Global};
+use crate::kept::{exchange, turn_round};
 use std::marker::Model;
-use std::rc::Rc;
 
-// The choices of the nodes. Copies share the places at which they end, which never change.
+// The choices of the nodes, as they are read.
 #[derive(Debug, Drop)]
-pub(crate) struct Choices {
-    keys: Vec<u32>,
-    ends: Rc<Vec<usize>>,
+pub(crate) struct Choices<'a> {
+    keys: &'a [u32],
+    ends: &'a [usize],
 }
 
-impl Model for Choices {
+impl<'a> Model for Choices<'a> {
     ghost use Rattle.std.specs.Prelude.{List, ℕ};
-    ghost use Rattle.skel_embed.specs.Flat.{cut_from, AreFlat};
+    ghost use Rattle.skel_embed.specs.Flat.{lists_in, AreFlat};
 
     ghost Value = { List (List ℕ) };
 
-    ghost view = { λ c. cut_from 0 c.ends.value.items c.keys.items };
+    ghost view = { λ c. lists_in c.keys.now c.ends.now };
 
-    ghost invariant = { λ c. AreFlat (cut_from 0 c.ends.value.items c.keys.items) c.keys.items c.ends.value.items };
+    ghost invariant = { λ c. AreFlat (lists_in c.keys.now c.ends.now) c.keys.now c.ends.now };
 }
 
-impl Choices {
-    // The choices with these keys.
-    pub(crate) fn from_lists(alloc: Global, lists: &[Kept]) -> Result<Choices, AllocError>
-        ensures { IfOk result (λ choices. choices ≡ lists.now) }
+impl<'a> Choices<'a> {
+    // The choices with these keys, which end there.
+    pub(crate) fn of(keys: &'a [u32], ends: &'a [usize]) -> Choices<'a>
+        requires { AreFlat (lists_in keys.now ends.now) keys.now ends.now }
+        ensures { result ≡ lists_in keys.now ends.now }
     {
-        let mut keys = Vec::new(alloc);
-        let mut ends = Vec::with_capacity(alloc, lists.len())?;
-        for list in lists {
-            keys.extend_from_slice(list.as_slice())?;
-            ends.push(keys.len())?;
-        }
-        let ends = Rc::new(alloc, ends)?;
-        Ok(Choices { keys, ends })
-    }
-
-    // The number of nodes.
-    fn count(&self) -> usize
-        ensures { result ≡ length self.now }
-    {
-        self.ends.len()
+        Choices { keys, ends }
     }
 
     // Where the keys of node k begin.
@@ -61,7 +46,7 @@ impl Choices {
         if k == 0 {
             return 0;
         }
-        self.ends[k - 1]
+        end_at(self.ends, k - 1)
     }
 
     // Where the keys of node k begin, and where they end.
@@ -72,59 +57,70 @@ impl Choices {
         ensures order { result.0 ≤ result.1 }
         ensures within { result.1 ≤ length (concat self.now) }
     {
-        (self.start(k), self.ends[k])
+        (self.start(k), end_at(self.ends, k))
     }
 
     // The keys of node k, in order.
-    pub(crate) fn at(&self, k: usize) -> &[u32]
+    pub(crate) fn at(&self, k: usize) -> &'a [u32]
         requires { k < length self.now }
         ensures { result.now ≡ slice_index_or self.now k [] }
     {
         let (start, end) = self.bounds(k);
         &self.keys[start..end]
     }
+}
 
-    // Reverses the cyclic order of node k.
-    pub(crate) fn turn_round(&mut self, k: usize)
-        requires node { k < length self.old }
-        requires once { is_distinct (slice_index_or self.old k []) ≡ true }
-        requires written { from_least (slice_index_or self.old k []) ≡ slice_index_or self.old k [] }
-        ensures { self.new ≡ slice_set self.old k (turned_choice (slice_index_or self.old k [])) }
-    {
-        let (start, end) = self.bounds(k);
-        turn_round(&mut self.keys[start..end]);
-    }
+// Where the keys of node k end.
+fn end_at(ends: &[usize], k: usize) -> usize
+    requires { k < length ends.now }
+    ensures { result ≡ slice_index_or ends.now k 0 }
+{
+    ends[k]
+}
 
-    // Exchanges two keys of the cyclic order of node k.
-    pub(crate) fn exchange(&mut self, k: usize, a: u32, b: u32)
-        requires node { k < length self.old }
-        requires once { is_distinct (slice_index_or self.old k []) ≡ true }
-        requires written { from_least (slice_index_or self.old k []) ≡ slice_index_or self.old k [] }
-        requires first { is_member a (slice_index_or self.old k []) ≡ true }
-        requires second { is_member b (slice_index_or self.old k []) ≡ true }
-        ensures { self.new ≡ slice_set self.old k (from_least
-            (exchanged a b (slice_index_or self.old k []))) }
-    {
-        let (start, end) = self.bounds(k);
-        exchange(&mut self.keys[start..end], a, b);
-    }
+// Reverses the cyclic order of node k.
+pub(crate) fn turn_choice(keys: &mut Vec<u32>, ends: &[usize], k: usize)
+    requires flat { AreFlat (lists_in keys.old.items ends.now) keys.old.items ends.now }
+    requires node { k < length (lists_in keys.old.items ends.now) }
+    requires once { is_distinct (slice_index_or (lists_in keys.old.items ends.now) k []) ≡ true }
+    requires written { from_least (slice_index_or (lists_in keys.old.items ends.now) k [])
+        ≡ slice_index_or (lists_in keys.old.items ends.now) k [] }
+    ensures flat { AreFlat (lists_in keys.new.items ends.now) keys.new.items ends.now }
+    ensures turned { lists_in keys.new.items ends.now
+        ≡ slice_set (lists_in keys.old.items ends.now) k
+        (turned_choice (slice_index_or (lists_in keys.old.items ends.now) k [])) }
+{
+    let (start, end) = Choices::of(keys.as_slice(), ends).bounds(k);
+    turn_round(&mut keys[start..end]);
+}
 
-    // Reverses the cyclic order of each node.
-    pub(crate) fn turn_all(&mut self)
-        requires { AreWritten self.old }
-        ensures { self.new ≡ map turned_choice self.old }
-    {
-        for k in 0..self.count() {
-            self.turn_round(k);
-        }
-    }
+// Exchanges two keys of the cyclic order of node k.
+pub(crate) fn exchange_in_choice(keys: &mut Vec<u32>, ends: &[usize], k: usize, a: u32, b: u32)
+    requires flat { AreFlat (lists_in keys.old.items ends.now) keys.old.items ends.now }
+    requires node { k < length (lists_in keys.old.items ends.now) }
+    requires once { is_distinct (slice_index_or (lists_in keys.old.items ends.now) k []) ≡ true }
+    requires written { from_least (slice_index_or (lists_in keys.old.items ends.now) k [])
+        ≡ slice_index_or (lists_in keys.old.items ends.now) k [] }
+    requires first { is_member a (slice_index_or (lists_in keys.old.items ends.now) k []) ≡ true }
+    requires second { is_member b (slice_index_or (lists_in keys.old.items ends.now) k []) ≡ true }
+    ensures flat { AreFlat (lists_in keys.new.items ends.now) keys.new.items ends.now }
+    ensures exchanged { lists_in keys.new.items ends.now
+        ≡ slice_set (lists_in keys.old.items ends.now) k (from_least
+        (exchanged a b (slice_index_or (lists_in keys.old.items ends.now) k []))) }
+{
+    let (start, end) = Choices::of(keys.as_slice(), ends).bounds(k);
+    exchange(&mut keys[start..end], a, b);
+}
 
-    // A copy.
-    pub(crate) fn copy(&self, alloc: Global) -> Result<Choices, AllocError>
-        ensures { IfOk result (λ choices. choices ≡ self.now) }
-    {
-        let keys = Vec::from_slice(alloc, &self.keys)?;
-        let ends = self.ends.clone()?;
-        Ok(Choices { keys, ends })
+// Reverses the cyclic order of each node.
+pub(crate) fn turn_all(keys: &mut Vec<u32>, ends: &[usize])
+    requires flat { AreFlat (lists_in keys.old.items ends.now) keys.old.items ends.now }
+    requires written { AreWritten (lists_in keys.old.items ends.now) }
+    ensures flat { AreFlat (lists_in keys.new.items ends.now) keys.new.items ends.now }
+    ensures turned { lists_in keys.new.items ends.now
+        ≡ map turned_choice (lists_in keys.old.items ends.now) }
+{
+    for k in 0..ends.len() {
+        turn_choice(keys, ends, k);
     }
 }

@@ -1,6 +1,7 @@
 // The choices of another plane rotation system of a block.
 
 ghost use Rattle.std.specs.Prelude.{◌≡◌, ◌≢◌, ◌<◌, ◌↔◌, ◌⊎◌, ℕ, List, true, length, IfOk, IsTrue, MatchOption};
+ghost use Rattle.std.specs.List.{concat};
 ghost use Rattle.permutations.specs.Cyclic.{turned};
 ghost use Rattle.permutations.specs.Members.{is_member};
 ghost use Rattle.pair_split.specs.Tutte.{node_at};
@@ -8,12 +9,12 @@ ghost use Rattle.pair_split.specs.declared.components.Kind.TheVariants.{P, R};
 ghost use Rattle.skeletons.specs.Items.{has_vertex, IsBlockTree};
 ghost use Rattle.faces.specs.Euler.{IsPlaneSystem};
 ghost use Rattle.skeletons.specs.Choices.{choice};
-ghost use Rattle.skel_embed.specs.Block.{AreChoices};
 ghost use Rattle.skeletons.specs.Moves.{IsNodeOfKind};
+ghost use Rattle.skel_embed.specs.Block.{AreChoices, choices_by};
 ghost use Rattle.skel_embed.specs.Taken.{runs_met, IsFirstOther, NoneOther};
 
 use crate::choices::Choices;
-use crate::kept::{Kept, place_of};
+use crate::kept::place_of;
 use multigraph::Graph;
 use pair_split::Kind;
 use rotations::Rotation;
@@ -123,26 +124,26 @@ fn choice_of(
     }
 }
 
-// The choices of all nodes; `old` are those in some plane rotation system.
+// The keys of the choices of all nodes, one choice after the other; `old` are those in some plane rotation system.
 pub(crate) fn choices_of(
     alloc: Global,
     g: &Graph,
     t: &Tree,
     r: &Rotation,
-    old: &Choices,
-) -> Result<Vec<Kept>, AllocError>
+    old: &Choices<'_>,
+) -> Result<Vec<u32>, AllocError>
     requires block { IsBlockTree g.now t.now }
     requires plane { IsPlaneSystem g.now r.now }
     requires old { (q : List (List ℕ)) × IsPlaneSystem g.now q
         × AreChoices t.now q (length t.now) old.now }
-    ensures { IfOk result (λ choices. AreChoices t.now r.now (length t.now) choices.items) }
+    ensures { IfOk result (λ keys. keys.items ≡ concat (choices_by t.now r.now)) }
 {
-    let mut choices = Vec::new(alloc);
+    let mut keys = Vec::new(alloc);
     for k in 0..t.node_count() {
-        let keys = choice_of(alloc, g, t, r, k, old.at(k as usize))?;
-        choices.push(Kept::of(keys))?;
+        let list = choice_of(alloc, g, t, r, k, old.at(k as usize))?;
+        keys.extend_from_slice(&list)?;
     }
-    Ok(choices)
+    Ok(keys)
 }
 
 // Whether two lists of keys differ.
@@ -153,7 +154,12 @@ fn differ(a: &[u32], b: &[u32]) -> bool
 }
 
 // The least locked node whose choices differ.
-pub(crate) fn first_other(n: u32, locks: &[bool], old: &Choices, new: &[Kept]) -> Option<u32>
+pub(crate) fn first_other(
+    n: u32,
+    locks: &[bool],
+    old: &Choices<'_>,
+    new: &Choices<'_>,
+) -> Option<u32>
     requires old { length old.now ≡ length locks.now }
     requires new { length new.now ≡ length locks.now }
     requires few { length locks.now ≡ n }
@@ -161,7 +167,7 @@ pub(crate) fn first_other(n: u32, locks: &[bool], old: &Choices, new: &[Kept]) -
         (IsFirstOther locks.now old.now new.now) }
 {
     for k in 0..n {
-        if locks[k as usize] && differ(old.at(k as usize), new[k as usize].as_slice()) {
+        if locks[k as usize] && differ(old.at(k as usize), new.at(k as usize)) {
             return Some(k);
         }
     }

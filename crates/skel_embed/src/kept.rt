@@ -1,42 +1,10 @@
-// A choice as it is kept: its keys, from the least on. It is changed in place, as a part of a list.
+// The keys of a choice, from the least on, changed in place.
 
 ghost use Rattle.std.specs.Prelude.{◌≡◌, ◌≤◌, ◌++◌, ◌==◌, true, length, map, reverse, take, drop};
 ghost use Rattle.std.specs.List.{position};
 ghost use Rattle.permutations.specs.Cyclic.{from_least, turned};
 ghost use Rattle.permutations.specs.Members.{is_member, is_distinct};
 ghost use Rattle.skel_embed.specs.Exchanges.{other_of, exchanged, turned_choice, AreWritten, StandsAt};
-
-use std::marker::Model;
-
-// The keys of a choice.
-#[derive(Debug, Drop)]
-pub(crate) struct Kept {
-    held: Vec<u32>,
-}
-
-impl Model for Kept {
-    ghost use Rattle.std.specs.Prelude.{List, ℕ};
-
-    ghost Value = { List ℕ };
-
-    ghost view = { λ keys. keys.held.items };
-}
-
-impl Kept {
-    // The choice with these keys. Takes no memory.
-    pub(crate) fn of(v: Vec<u32>) -> Kept
-        ensures { result ≡ v.items }
-    {
-        Kept { held: v }
-    }
-
-    // Its keys, in order.
-    pub(crate) fn as_slice(&self) -> &[u32]
-        ensures { result.now ≡ self.now }
-    {
-        self.held.as_slice()
-    }
-}
 
 // Reverses the cyclic order.
 pub(crate) fn turn_round(keys: &mut [u32])

@@ -58,7 +58,7 @@ pub(crate) fn members_of<E: Embedder>(
     requires block { (g : Multigraph) × IsBlockTree g tree.now × IsWithinLimits g }
     ensures { IfOk result (AreMembers tree.now) }
 {
-    let mut list = Vec::new(alloc);
+    let mut list = Vec::with_capacity(alloc, tree.node_count() as usize)?;
     for k in 0..tree.node_count() {
         match member_of(alloc, tree, k, embedder)? {
             Member::Plane(r) => list.push(r)?,

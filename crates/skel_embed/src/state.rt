@@ -1,6 +1,7 @@
 // A block in the plane.
 
 ghost use Rattle.std.specs.Prelude.{◌≡◌, ◌<◌, true, length, map, reverse, IfOk, IfErr, slice_set};
+ghost use Rattle.std.specs.List.{concat};
 ghost use Rattle.permutations.specs.Cyclic.{from_least};
 ghost use Rattle.permutations.specs.Members.{is_member};
 ghost use Rattle.pair_split.specs.declared.components.Kind.TheVariants.{P, R};
@@ -10,10 +11,12 @@ ghost use Rattle.skeletons.specs.Moves.{IsNodeOfKind, FlipLeads, PermuteLeads};
 ghost use Rattle.rotations.specs.Runs.{mirror_image};
 ghost use Rattle.skel_embed.specs.Exchanges.{exchanged, turned_choice};
 ghost use Rattle.skeletons.specs.Lists.{KeepsChoices};
-ghost use Rattle.skel_embed.specs.Block.{BlockState, lock_at, IsBlockState};
+ghost use Rattle.faces.specs.Euler.{IsPlaneSystem};
+ghost use Rattle.skel_embed.specs.Block.{BlockState, lock_at, choices_by, IsBlockState};
+ghost use Rattle.skel_embed.specs.Flat.{lists_in, AreFlat};
 ghost use Rattle.skel_embed.specs.Taken.{IsGiven, IsTakeRefusal};
 
-use crate::choices::Choices;
+use crate::choices::{Choices, exchange_in_choice, turn_all, turn_choice};
 use crate::choosing::{choices_of, first_other};
 use crate::exchanging::exchange_node;
 use crate::taking::{TakeFault, given};
@@ -25,70 +28,88 @@ use std::alloc::{AllocError, Global};
 use std::marker::Model;
 use std::rc::Rc;
 
+// What never changes in a block: its graph, its tree, and where the choice of each node ends among the keys of all.
+#[derive(Debug, Drop)]
+pub(crate) struct Frame {
+    pub(crate) graph: Graph,
+    pub(crate) tree: Tree,
+    pub(crate) ends: Vec<usize>,
+}
+
 /// A block with its tree, a plane rotation system, the choice of each node, and locks on nodes. Contracts see all five. Copies
 /// share graph and tree, which never change.
 #[derive(Debug, Drop)]
 pub struct PlaneBlock {
-    pub(crate) graph: Rc<Graph>,
-    pub(crate) tree: Rc<Tree>,
-    pub(crate) rotation: Rotation,
-    pub(crate) choices: Choices,
-    pub(crate) locks: Vec<bool>,
+    frame: Rc<Frame>,
+    rotation: Rotation,
+    keys: Vec<u32>,
+    locks: Vec<bool>,
 }
 
 impl Model for PlaneBlock {
     ghost use Rattle.skel_embed.specs.Block.{BlockState, IsBlockState};
+    ghost use Rattle.skel_embed.specs.Flat.{lists_in, AreFlat};
 
     ghost Value = { BlockState };
 
     ghost view = { λ p. record {
-      graph = p.graph.value;
-      tree = p.tree.value;
+      graph = p.frame.value.graph;
+      tree = p.frame.value.tree;
       rotation = p.rotation;
-      choices = p.choices;
+      choices = lists_in p.keys.items p.frame.value.ends.items;
       locks = p.locks.items;
     } };
 
     ghost invariant = { λ p. IsBlockState (record {
-      graph = p.graph.value;
-      tree = p.tree.value;
+      graph = p.frame.value.graph;
+      tree = p.frame.value.tree;
       rotation = p.rotation;
-      choices = p.choices;
+      choices = lists_in p.keys.items p.frame.value.ends.items;
       locks = p.locks.items;
-    }) };
+    }) × AreFlat (lists_in p.keys.items p.frame.value.ends.items)
+        p.keys.items p.frame.value.ends.items };
 }
 
 impl PlaneBlock {
     // A block of these parts. Takes no memory.
     pub(crate) fn of(
-        graph: Rc<Graph>,
-        tree: Rc<Tree>,
+        frame: Rc<Frame>,
         rotation: Rotation,
-        choices: Choices,
+        keys: Vec<u32>,
         locks: Vec<bool>,
     ) -> PlaneBlock
-        requires { IsBlockState (record {
-          graph = graph.value;
-          tree = tree.value;
+        requires state { IsBlockState (record {
+          graph = frame.value.graph;
+          tree = frame.value.tree;
           rotation = rotation;
-          choices = choices;
+          choices = lists_in keys.items frame.value.ends.items;
           locks = locks.items;
         }) }
+        requires flat { AreFlat (lists_in keys.items frame.value.ends.items)
+            keys.items frame.value.ends.items }
         ensures { result ≡ record {
-          graph = graph.value;
-          tree = tree.value;
+          graph = frame.value.graph;
+          tree = frame.value.tree;
           rotation = rotation;
-          choices = choices;
+          choices = lists_in keys.items frame.value.ends.items;
           locks = locks.items;
         } }
     {
         PlaneBlock {
-            graph,
-            tree,
+            frame,
             rotation,
-            choices,
+            keys,
             locks,
         }
+    }
+
+    // The choices, as they are kept.
+    fn choices(&self) -> Choices<'_>
+        ensures value { result ≡ self.now.choices }
+        ensures state { IsBlockState self.now }
+    {
+        let frame = self.frame.as_ref();
+        Choices::of(self.keys.as_slice(), frame.ends.as_slice())
     }
 
     /// The graph.
@@ -96,7 +117,7 @@ impl PlaneBlock {
         ensures value { result.now ≡ self.now.graph }
         ensures state { IsBlockState self.now }
     {
-        &self.graph
+        &self.frame.graph
     }
 
     /// The tree.
@@ -104,7 +125,7 @@ impl PlaneBlock {
         ensures value { result.now ≡ self.now.tree }
         ensures state { IsBlockState self.now }
     {
-        &self.tree
+        &self.frame.tree
     }
 
     /// The present rotation system.
@@ -121,7 +142,7 @@ impl PlaneBlock {
         requires { k < length self.now.tree }
         ensures { IfOk result (λ keys. keys.items ≡ choice self.now.tree self.now.rotation k) }
     {
-        Vec::from_slice(alloc, self.choices.at(k as usize))
+        Vec::from_slice(alloc, self.choices().at(k as usize))
     }
 
     /// The present choice of node `k`, as it is kept. Takes no memory.
@@ -129,7 +150,7 @@ impl PlaneBlock {
         requires { k < length self.now.tree }
         ensures { result.now ≡ choice self.now.tree self.now.rotation k }
     {
-        self.choices.at(k as usize)
+        self.choices().at(k as usize)
     }
 
     /// The parts belong together. For proofs alone: does nothing.
@@ -168,8 +189,9 @@ impl PlaneBlock {
           choices = self.new.choices;
         } }
     {
-        turn_node(&self.graph, &self.tree, &mut self.rotation, k);
-        self.choices.turn_round(k as usize);
+        let frame = self.frame.as_ref();
+        turn_node(&frame.graph, &frame.tree, &mut self.rotation, k);
+        turn_choice(&mut self.keys, frame.ends.as_slice(), k as usize);
     }
 
     /// Exchanges the groups of the bond `k` with the keys `a` and `b` at both poles, each group as it was (Di Battista and
@@ -189,8 +211,9 @@ impl PlaneBlock {
           choices = self.new.choices;
         } }
     {
-        exchange_node(&self.graph, &self.tree, &mut self.rotation, k, a, b);
-        self.choices.exchange(k as usize, a, b);
+        let frame = self.frame.as_ref();
+        exchange_node(&frame.graph, &frame.tree, &mut self.rotation, k, a, b);
+        exchange_in_choice(&mut self.keys, frame.ends.as_slice(), k as usize, a, b);
     }
 
     /// Reverses every rotation: the mirror image of the block, in which each choice is reversed. All else stays. Takes no
@@ -204,7 +227,8 @@ impl PlaneBlock {
         } }
     {
         self.rotation.mirror();
-        self.choices.turn_all();
+        let frame = self.frame.as_ref();
+        turn_all(&mut self.keys, frame.ends.as_slice());
     }
 
     /// Makes lists the rotation system of the block. `part` is the part of a graph that the block is, and the lists are in the
@@ -227,19 +251,39 @@ impl PlaneBlock {
         ensures refused { IfErr result (λ fault. IsTakeRefusal self.old part.now lists.now fault
             × (self.new ≡ self.old)) }
     {
-        let rotation = given(alloc, &self.graph, part, lists)?;
-        let Ok(lists) = choices_of(alloc, &self.graph, &self.tree, &rotation, &self.choices) else {
-            return Err(TakeFault::Memory);
-        };
-        if let Some(k) = first_other(self.tree.node_count(), &self.locks, &self.choices, &lists) {
-            return Err(TakeFault::Locked(k));
-        }
-        let Ok(choices) = Choices::from_lists(alloc, &lists) else {
-            return Err(TakeFault::Memory);
-        };
+        let (rotation, keys) = self.taken(alloc, part, lists)?;
         self.rotation = rotation;
-        self.choices = choices;
+        self.keys = keys;
         Ok(())
+    }
+
+    // The rotation system that the lists are, and the keys of its choices, if it may become that of the block.
+    fn taken(
+        &self,
+        alloc: Global,
+        part: &Part,
+        lists: &Lists,
+    ) -> Result<(Rotation, Vec<u32>), TakeFault>
+        requires { part.now.graph ≡ self.now.graph }
+        ensures given { IfOk result (λ new. IsGiven part.now lists.now new.0) }
+        ensures plane { IfOk result (λ new. IsPlaneSystem self.now.graph new.0) }
+        ensures keeps { IfOk result (λ new. KeepsChoices self.now.tree
+            (λ k. lock_at self.now.locks k) self.now.rotation new.0) }
+        ensures keys { IfOk result (λ new. new.1.items ≡ concat (choices_by self.now.tree new.0)) }
+        ensures refused { IfErr result (IsTakeRefusal self.now part.now lists.now) }
+    {
+        let (graph, tree) = (self.graph(), self.tree());
+        let rotation = given(alloc, graph, part, lists)?;
+        let Ok(keys) = choices_of(alloc, graph, tree, &rotation, &self.choices()) else {
+            return Err(TakeFault::Memory);
+        };
+        let n = tree.node_count();
+        let ends = self.frame.ends.as_slice();
+        let other = first_other(n, &self.locks, &self.choices(), &Choices::of(&keys, ends));
+        match other {
+            Some(k) => Err(TakeFault::Locked(k)),
+            None => Ok((rotation, keys)),
+        }
     }
 
     /// A copy of the block. Fails only if memory runs out.
@@ -247,10 +291,9 @@ impl PlaneBlock {
         ensures { IfOk result (λ p. p ≡ self.now) }
     {
         Ok(PlaneBlock {
-            graph: self.graph.clone()?,
-            tree: self.tree.clone()?,
+            frame: self.frame.clone()?,
             rotation: self.rotation.copy(alloc)?,
-            choices: self.choices.copy(alloc)?,
+            keys: Vec::from_slice(alloc, &self.keys)?,
             locks: Vec::from_slice(alloc, &self.locks)?,
         })
     }

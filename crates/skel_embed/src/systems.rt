@@ -1,7 +1,8 @@
 // Rotation systems of a graph: a fan, by its lists; and the first of the two plane ones of a triconnected graph.
 
-ghost use Rattle.std.specs.Prelude.{◌≡◌, ◌<◌, IfOk};
+ghost use Rattle.std.specs.Prelude.{◌≡◌, ◌<◌, ◌++◌, ◌∷◌, [], IfOk};
 ghost use Rattle.graph_theory.specs.Triconnected.{IsTriconnected};
+ghost use Rattle.rotations.specs.Entries.{IsAbove};
 ghost use Rattle.rotations.specs.Rotation.{order_at};
 ghost use Rattle.planarity.specs.Embedding.{IsEmbedding};
 ghost use Rattle.skel_compose.specs.Orders.{orders_below};
@@ -9,20 +10,22 @@ ghost use Rattle.skel_embed.specs.Fan.{fan_lists, IsFan, TurnsRightWherePlane};
 
 use multigraph::Graph;
 use planarity::{Embedded, Embedder};
-use rotations::{Lists, RotFault, Rotation};
+use rotations::{Lists, Rotation};
 use std::alloc::{AllocError, Global};
 
-// The edges at v: in order at vertex 0, and in reverse order at others.
-fn fan_list(alloc: Global, g: &Graph, v: u32) -> Result<Vec<u32>, AllocError>
-    requires { v < g.now.vertex_count }
-    ensures { IfOk result (λ edges. edges.items ≡ order_at (fan_lists g.now) v) }
+// Appends the edges at v: in order at vertex 0, and in reverse order at others. `held` is used to reverse them.
+fn push_fan(g: &Graph, v: u32, lists: &mut Lists, held: &mut Vec<u32>) -> Result<(), AllocError>
+    requires vertex { v < g.now.vertex_count }
+    requires above { IsAbove lists.old v }
+    ensures { IfOk result (λ _. lists.new ≡ lists.old ++ (v, order_at (fan_lists g.now) v) ∷ []) }
 {
-    let mut edges = Vec::from_slice(alloc, g.incident(v))?;
     if v == 0 {
-        return Ok(edges);
+        return lists.push(v, g.incident(v));
     }
-    edges.reverse();
-    Ok(edges)
+    held.clear();
+    held.extend_from_slice(g.incident(v))?;
+    held.reverse();
+    lists.push(v, held)
 }
 
 // Those of all vertices.
@@ -30,9 +33,9 @@ fn fan_lists(alloc: Global, g: &Graph) -> Result<Lists, AllocError>
     ensures { IfOk result (λ lists. lists ≡ orders_below (fan_lists g.now) g.now.vertex_count) }
 {
     let mut lists = Lists::new(alloc);
+    let mut held = Vec::new(alloc);
     for v in 0..g.vertex_count() {
-        let edges = fan_list(alloc, g, v)?;
-        lists.push(v, &edges)?;
+        push_fan(g, v, &mut lists, &mut held)?;
     }
     Ok(lists)
 }
@@ -42,13 +45,8 @@ pub(crate) fn fan(alloc: Global, g: &Graph) -> Result<Rotation, AllocError>
     ensures { IfOk result (IsFan g.now) }
 {
     let lists = fan_lists(alloc, g)?;
-    match Rotation::from_lists(alloc, g, &lists) {
-        Ok(r) => Ok(r),
-        Err(fault) => match fault {
-            RotFault::Memory => Err(AllocError),
-            RotFault::BadRotation(_) => unreachable!(),
-        },
-    }
+    let r = Rotation::of_arranged(alloc, g, &lists)?;
+    Ok(r)
 }
 
 // The plane rotation system of a triconnected graph that turns right at vertex 0, or why none exists.

@@ -3,7 +3,7 @@ use Rattle.permutations.specs.Members.{is_member}
 use Rattle.permutations.proofs.Members.{member-head, member-tail}
 use Rattle.skeletons.proofs.NodeItems.{nth_item}
 use Rattle.skel_embed.proofs.First.{keys-more}
-use Rattle.skel_embed.proofs.blocks_in_plane.keys_round.Goals as goal
+use Rattle.skel_embed.proofs.blocks_in_plane.append_round.Goals as goal
 
 pub bounds-items-i : goal.bounds-items-i
 bounds-items-i c = c.loop-i.invariant.1 c.in-Some.i (ap (is_member c.in-Some.i) c.in-Some.ensures.steps ∙ member-head c.in-Some.i c.next.new.self)
