@@ -1,4 +1,4 @@
-use Rattle.std.proofs.Common.{ℕ, List, sym, subst, arith}
+use Rattle.std.proofs.Common.{ℕ, List, subst, arith}
 use Rattle.skeletons.specs.Families.{AreSkeletonSystems, FollowsFamily}
 use Rattle.skel_decompose.proofs.Ahead.{some-family}
 use Rattle.skel_decompose.proofs.Gathered.{members-more, members-all}

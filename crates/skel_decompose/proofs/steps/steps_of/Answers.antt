@@ -1,4 +1,4 @@
-use Rattle.std.proofs.Common.{◌≡◌, ◌<◌, ◌*◌, List, length, sym, ap, subst, arith}
+use Rattle.std.proofs.Common.{◌≡◌, ◌<◌, ◌*◌, List, length, ap, subst, arith}
 use Rattle.multigraph.specs.Graph.{edge_count}
 use Rattle.faces.specs.Steps.{AreStepsBelow}
 use Rattle.faces.proofs.FaceSteps.{steps-more}
