@@ -1,4 +1,4 @@
-use Rattle.std.proofs.Common.{◌≡◌, ◌≢◌, ◌<◌, ◌≤◌, ◌*◌, ℕ, length, sym, ap, ◌∙◌, subst, arith}
+use Rattle.std.proofs.Common.{◌≡◌, ◌≢◌, ◌<◌, ◌≤◌, ◌*◌, ◌/◌, ℕ, List, length, sym, ap, ◌∙◌, subst, arith}
 use Rattle.std.proofs.lemmas.Result.{IfOk-weaker}
 use Rattle.permutations.specs.Count.{sum_below}
 use Rattle.multigraph.specs.Graph.{max_edges}
@@ -7,6 +7,7 @@ use Rattle.pair_split.specs.declared.components.Kind.TheVariants.{P}
 use Rattle.face_weights.specs.Numbers.{number_at}
 use Rattle.face_weights.specs.Sums.{weight_in}
 use Rattle.face_weights.proofs.NodeCode.{other-kind, bond-several, row-numbers, rest-pairs, numbers-twice, numbers-within, totals-own, totals-rest}
+use Rattle.face_weights.proofs.Totals.{share}
 use Rattle.face_weights.proofs.rests.rests_of.Goals as goal
 
 pub pair_rests-requires : goal.pair_rests-requires
@@ -46,6 +47,7 @@ returns-in_ok-totals_of-in-S c =
       number = IfOk-weaker c.face_rests.result _ _ (λ u e. e ∙ c.requires.number) c.face_rests.ensures.number;
       each = IfOk-weaker c.face_rests.result _ _ (λ u h family know i l.
           let read = row-numbers c.args.tree.now family c.args.faces.now know c.args.k c.requires.node c.at-numbers.result.now c.at-numbers.ensures in
-          totals-rest c.requires.block.0 c.args.tree.now c.requires.block.1 c.args.k c.requires.node family c.args.weights.now c.requires.number c.at-numbers.result.now read c.totals_of.new.totals.items c.in_ok-totals_of-in-S.ensures.each i (weight_in c.face_rests.new.rests.items i) other l
+          totals-rest c.requires.block.0 c.args.tree.now c.requires.block.1 c.args.k c.requires.node family c.args.weights.now c.requires.number c.at-numbers.result.now read c.deref.result.now
+          (subst (λ (z : List ℕ). (t : ℕ) → t < length c.at-numbers.result.now → weight_in z t ≡ sum_below (length c.at-numbers.result.now) (share c.at-numbers.result.now c.args.weights.now t)) (sym c.deref.ensures.value) c.in_ok-totals_of-in-S.ensures.each) i (weight_in c.face_rests.new.rests.items i) other l
           (h i (subst (λ n. i < n) (sym c.requires.number) l))) c.face_rests.ensures.each;
     }
