@@ -6,7 +6,7 @@ use Rattle.permutations.specs.Count.{sum_below}
 use Rattle.permutations.proofs.Sums.{sum_below-le}
 use Rattle.multigraph.specs.Graph.{Multigraph, edge_count, max_edges, IsWithinLimits}
 use Rattle.pair_split.specs.Split.{items_of, piece_ends}
-use Rattle.pair_split.specs.Tutte.{Node, components, node_at, node_item, piece_of}
+use Rattle.pair_split.specs.Tutte.{Node, components, node_at, piece_of}
 use Rattle.pair_split.specs.declared.components.Kind.{Kind}
 use Rattle.pair_split.specs.declared.components.Kind.TheVariants.{S, P, R, B}
 use Rattle.pair_split.proofs.NodeParts.{node-pieces}

@@ -1,7 +1,6 @@
-use Rattle.std.proofs.Common.{◌≡◌, ◌++◌, ℕ, List, length, take, drop, replicate, slice_index, false, sym, ◌∙◌, subst, arith}
+use Rattle.std.proofs.Common.{◌≡◌, ◌++◌, ℕ, List, length, take, drop, slice_index, false, sym, ◌∙◌, subst, arith}
 use Rattle.std.proofs.lemmas.Grind.{common_steps}
 use Rattle.multigraph.specs.Marks.{is_marked}
-use Rattle.spqr_tree.specs.Absent.{absent}
 use Rattle.faces.proofs.FaceSteps.{steps-permutation}
 use Rattle.face_weights.specs.Numbers.{marks_of, AreOrbitsNumbered}
 use Rattle.face_weights.proofs.Numbering.{marked-none, steps-tell}

@@ -1,5 +1,4 @@
-use Rattle.std.proofs.Common.{◌≡◌, ◌<◌, ◌≤◌, ◌+◌, ◌-◌, ◌*◌, ◌/◌, ℕ, max, ap, subst, arith}
-use Rattle.std.proofs.Math.Nat.{max-eq_left, max-eq_right}
+use Rattle.std.proofs.Common.{◌≡◌, ◌<◌, ◌+◌, ◌-◌, ◌*◌, ◌/◌, ℕ, max, ap, subst, arith}
 use Rattle.multigraph.specs.Graph.{edge_count}
 use Rattle.face_weights.specs.Sums.{weight_in}
 use Rattle.face_weights.proofs.FaceBounds.{own-weight}

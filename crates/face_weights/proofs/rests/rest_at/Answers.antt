@@ -1,4 +1,4 @@
-use Rattle.std.proofs.Common.{◌≡◌, ◌≢◌, ◌<◌, ◌≤◌, ◌*◌, ℕ, length, sym, ap, ◌∙◌, subst, arith}
+use Rattle.std.proofs.Common.{◌≢◌, ◌<◌, ◌≤◌, ◌*◌, sym, ◌∙◌, subst}
 use Rattle.permutations.specs.Count.{sum_below}
 use Rattle.multigraph.specs.Graph.{max_edges}
 use Rattle.pair_split.specs.Tutte.{node_at}

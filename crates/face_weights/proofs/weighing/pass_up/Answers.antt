@@ -2,7 +2,6 @@ use Rattle.std.proofs.Common.{◌≡◌, ◌<◌, ◌-◌, ℕ, List, [], length
 use Rattle.std.proofs.lemmas.List.{length-set, length-replicate}
 use Rattle.face_weights.specs.Sums.{weight_in}
 use Rattle.face_weights.specs.Passes.{weights_at, AreBelow}
-use Rattle.spqr_tree.specs.Keys.{parent_at}
 use Rattle.pair_split.specs.Tutte.{node_at}
 use Rattle.face_weights.proofs.Steps.{zeros}
 use Rattle.face_weights.proofs.InOrder.{node-at}
