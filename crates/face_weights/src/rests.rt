@@ -101,13 +101,7 @@ fn pair_rests(weights: &[u32], rests: &mut Vec<u32>) -> Result<(), AllocError>
 }
 
 // What node k adds to one of its items, of these weights.
-pub(crate) fn rest_at(
-    tree: &Tree,
-    faces: &NumberLists,
-    k: u32,
-    weights: &[u32],
-    item: usize,
-) -> u32
+pub(crate) fn rest_at(tree: &Tree, faces: &NumberLists, k: u32, weights: &[u32], item: usize) -> u32
     requires block { (g : Multigraph) × IsBlockTree g tree.now × IsWithinLimits g }
     requires faces { (family : List (List (List ℕ))) × KnowFaces tree.now family faces.now }
     requires node { k < length tree.now }

@@ -38,7 +38,10 @@ fn unknown(alloc: Global, count: u32) -> Result<Vec<Option<(u32, u32)>>, AllocEr
 }
 
 // For each node a neighbor, and its item that is the link to the node. The contract does not say for which nodes one is known.
-pub(crate) fn neighbors_of(alloc: Global, tree: &Tree) -> Result<Vec<Option<(u32, u32)>>, AllocError>
+pub(crate) fn neighbors_of(
+    alloc: Global,
+    tree: &Tree,
+) -> Result<Vec<Option<(u32, u32)>>, AllocError>
     requires block { (g : Multigraph) × IsBlockTree g tree.now × IsWithinLimits g }
     ensures { IfOk result (λ neighbors. AreNeighbors tree.now neighbors.items) }
 {
