@@ -1,12 +1,12 @@
 -- The rests of one node, as the code has them.
 use Rattle.std.proofs.Common.{◌≡◌, ◌≢◌, ℕ, ◌+◌, ◌*◌, ◌/◌, ◌<◌, ◌≤◌, ◌⊎◌, false, List, [], length, slice_index_or, max, inl, inr, refl, sym, ap, ◌∙◌, subst, arith}
 use Rattle.std.proofs.lemmas.Bool.{both_ways}
-use Rattle.std.proofs.lemmas.List.{length-map, get_or_default}
+use Rattle.std.proofs.lemmas.List.{length-map}
 use Rattle.permutations.specs.Count.{sum_below}
 use Rattle.permutations.proofs.Sums.{sum_below-le}
 use Rattle.multigraph.specs.Graph.{Multigraph, edge_count, max_edges, IsWithinLimits}
 use Rattle.pair_split.specs.Split.{items_of, piece_ends}
-use Rattle.pair_split.specs.Tutte.{Node, components, node_at, node_item, piece_of}
+use Rattle.pair_split.specs.Tutte.{Node, components, node_at, piece_of}
 use Rattle.pair_split.specs.declared.components.Kind.{Kind}
 use Rattle.pair_split.specs.declared.components.Kind.TheVariants.{S, P, R, B}
 use Rattle.pair_split.proofs.NodeParts.{node-pieces}
@@ -19,14 +19,15 @@ use Rattle.pair_split.specs.declared.components.What.TheVariants.{Link}
 use Rattle.spqr_tree.specs.Keys.{parent_at}
 use Rattle.spqr_tree.proofs.UpLinks.{first-in, link-within, link-to, link-once}
 use Rattle.face_weights.specs.Weights.{weight_by}
-use Rattle.face_weights.specs.Numbers.{NumberFaces, KnowFaces}
-use Rattle.face_weights.specs.Rests.{IsOtherMost, IsRest}
-use Rattle.face_weights.specs.Sums.{weight_in, AreFaceSums}
+use Rattle.face_weights.specs.Numbers.{number_at, NumberFaces, KnowFaces}
+use Rattle.face_weights.specs.Rests.{IsFaceRest, IsOtherMost, IsRest}
+use Rattle.face_weights.specs.Sums.{weight_in}
 use Rattle.face_weights.specs.Passes.{weights_at, group_size, AreLight, LinkOnce}
 use Rattle.face_weights.proofs.Terms.{sum-twice}
 use Rattle.face_weights.proofs.FaceBounds.{own-weight}
-use Rattle.face_weights.proofs.RestLemmas.{is_bond, rest-from_sums}
+use Rattle.face_weights.proofs.RestLemmas.{is_bond, rest-from_both}
 use Rattle.face_weights.proofs.GroupSizes.{groups-sum}
+use Rattle.face_weights.proofs.Totals.{share, total-face}
 
 -- a node of another kind is no bond
 pub not-bond : (kind other : Kind) → kind ≡ other → is_bond other ≡ false → kind ≢ P
@@ -42,9 +43,9 @@ other-kind kind h = elim h [
 ]
 
 -- the numbers of a node as they are read
-pub row-numbers : (nodes : List Node) (family : List (List (List ℕ))) (rows : List (List ℕ)) → KnowFaces nodes family rows → (k : ℕ) → k < length nodes → (row : List ℕ) → row ≡ slice_index_or rows k row → (seen : List ℕ) → seen ≡ row
+pub row-numbers : (nodes : List Node) (family : List (List (List ℕ))) (rows : List (List ℕ)) → KnowFaces nodes family rows → (k : ℕ) → k < length nodes → (seen : List ℕ) → seen ≡ slice_index_or rows k []
     → NumberFaces (skeleton_graph nodes k) (system_at family k) seen
-row-numbers nodes family rows know k l row e seen q = subst (NumberFaces (skeleton_graph nodes k) (system_at family k)) (sym (q ∙ e ∙ get_or_default rows k row [] (subst (λ n. k < n) (sym know.each) l))) (know.numbers k l)
+row-numbers nodes family rows know k l seen q = subst (NumberFaces (skeleton_graph nodes k) (system_at family k)) (sym q) (know.numbers k l)
 
 -- a block with its tree
 module _ (g : Multigraph) (nodes : List Node) (b : IsBlockTree g nodes) (k : ℕ) (l : k < length nodes) where
@@ -72,21 +73,39 @@ module _ (g : Multigraph) (nodes : List Node) (b : IsBlockTree g nodes) (k : ℕ
     rest-pairs i rest e x = record { face = λ n. absurd (n e); other = λ p. subst (λ z. IsOtherMost z (weight_in weights) i rest) number x }
 
     -- and of another node
-    pub rest-faces : (sums : List ℕ) (i rest : ℕ) → (node_at nodes k).kind ≢ P → i < length (node_at nodes k).items → AreFaceSums (skeleton_graph nodes k) (system_at family k) weights sums
-        → rest + weight_in weights i ≡ max (weight_in sums (2 * i)) (weight_in sums (2 * i + 1)) → IsRest nodes family k (weight_in weights) i rest
-    rest-faces sums i rest n m s e = record {
-      face = λ z. rest-from_sums (skeleton_graph nodes k) (system_at family k) weights sums s i rest (subst (λ x. i < x) (sym (graph-edges g nodes b k l)) m) e;
-      other = λ p. absurd (n p);
-    }
+    pub rest-face : (i rest : ℕ) → (node_at nodes k).kind ≢ P → IsFaceRest (skeleton_graph nodes k) (system_at family k) (weight_in weights) i rest → IsRest nodes family k (weight_in weights) i rest
+    rest-face i rest n x = record { face = λ z. x; other = λ p. absurd (n p) }
 
-    -- how many sums there are, and that each is at least its own item
-    pub sums-number : (sums : List ℕ) → AreFaceSums (skeleton_graph nodes k) (system_at family k) weights sums → length sums ≡ 2 * length weights
-    sums-number sums s = omega (arith, s.number, graph-edges g nodes b k l, number)
+    -- where numbers tell its faces: how many there are, and of a number
+    module _ (numbers : List ℕ) (n : NumberFaces (skeleton_graph nodes k) (system_at family k) numbers) where
+      pub numbers-twice : length numbers ≡ 2 * length weights
+      numbers-twice = omega (arith, n.darts, graph-edges g nodes b k l, number)
 
-    pub sums-own : (sums : List ℕ) → AreFaceSums (skeleton_graph nodes k) (system_at family k) weights sums → (d : ℕ) → d < length sums → weight_in weights (d / 2) ≤ weight_in sums d
-    sums-own sums s d m =
-        let c : d < 2 * edge_count (skeleton_graph nodes k) = subst (λ n. d < n) s.number m in
-        omega (arith, s.each d c, own-weight (skeleton_graph nodes k) (system_at family k) (weight_in weights) d c)
+      pub numbers-edges : length weights ≡ edge_count (skeleton_graph nodes k)
+      numbers-edges = omega (arith, graph-edges g nodes b k l, number)
+
+      dart-in : (d : ℕ) → d < length numbers → d < 2 * edge_count (skeleton_graph nodes k)
+      dart-in d m = subst (λ z. d < z) n.darts m
+
+      pub numbers-within : (d : ℕ) → d < length numbers → number_at numbers d < length numbers
+      numbers-within d m = subst (λ z. number_at numbers d < z) (sym n.darts) (n.within d (dart-in d m))
+
+      -- the weights of the faces at their numbers: each is at least that of an item on the face, and they give the rests
+      module _ (totals : List ℕ) (each : (t : ℕ) → t < length numbers → weight_in totals t ≡ sum_below (length numbers) (share numbers weights t)) where
+        pub totals-own : (d : ℕ) → d < length numbers → weight_in weights (d / 2) ≤ weight_in totals (number_at numbers d)
+        totals-own d m = omega (
+          arith,
+          total-face (skeleton_graph nodes k) (system_at family k) numbers weights totals n each d (dart-in d m),
+          own-weight (skeleton_graph nodes k) (system_at family k) (weight_in weights) d (dart-in d m),
+        )
+
+        pub totals-rest : (i rest : ℕ) → (node_at nodes k).kind ≢ P → i < length (node_at nodes k).items → rest + weight_in weights i ≡ max (weight_in totals (number_at numbers (2 * i))) (weight_in totals (number_at numbers (2 * i + 1)))
+            → IsRest nodes family k (weight_in weights) i rest
+        totals-rest i rest other m e =
+            let less : i < edge_count (skeleton_graph nodes k) = subst (λ z. i < z) (sym (graph-edges g nodes b k l)) m in
+            rest-face i rest other (rest-from_both (skeleton_graph nodes k) (system_at family k) (weight_in weights) i rest (weight_in totals (number_at numbers (2 * i))) (weight_in totals (number_at numbers (2 * i + 1)))
+            (total-face (skeleton_graph nodes k) (system_at family k) numbers weights totals n each (2 * i) (omega (arith, less)))
+            (total-face (skeleton_graph nodes k) (system_at family k) numbers weights totals n each (2 * i + 1) (omega (arith, less))) less e)
 
   -- the items as they are read: their links lead to nodes, each at one item, and their weights
   module _ (items : List Item) (read : items ≡ (node_at nodes k).items) where
@@ -103,8 +122,3 @@ module _ (g : Multigraph) (nodes : List Node) (b : IsBlockTree g nodes) (k : ℕ
     items-weights parents below seen weights made above r w h i m = ap (λ (z : List ℕ). weight_in z i) w
         ∙ subst (λ (z : List Item). i < length z → weight_in made i ≡ weight_by (parent_at parents k) (weight_in below) above (nth_item z i).what) read
         (λ n. subst (λ (z : List ℕ). weight_in made i ≡ weight_by (parent_at parents k) (weight_in z) above (nth_item items i).what) r (h i n)) m
-
-    pub items-noted : (parent value : ℕ) (rests made : List ℕ) → rests ≡ made → ((h : ℕ) → h < length items → (nth_item items h).what ≡ Link parent → value ≡ weight_in rests h)
-        → (h : ℕ) → h < length (node_at nodes k).items → (node_item nodes k h).what ≡ Link parent → value ≡ weight_in made h
-    items-noted parent value rests made e n h m w = subst (λ (z : List Item). h < length z → (nth_item z h).what ≡ Link parent → value ≡ weight_in made h) read
-        (λ a u. subst (λ (z : List ℕ). value ≡ weight_in z h) e (n h a u)) m w

@@ -21,7 +21,6 @@ use Rattle.skeleton_runs.proofs.SkeletonGraph.{graph-edges}
 use Rattle.skeleton_planes.proofs.SkeletonDarts.{item-dart}
 use Rattle.skeleton_faces.specs.Faces.{face_weight}
 use Rattle.face_weights.specs.Rests.{IsFaceRest, IsRest}
-use Rattle.face_weights.specs.Sums.{weight_in, AreFaceSums}
 use Rattle.face_weights.proofs.Terms.{two-terms}
 use Rattle.face_weights.proofs.FaceBounds.{face-same, face-bounded, face-twice, face-other, part}
 use Rattle.face_weights.proofs.LinkFaces.{link-faces}
@@ -40,36 +39,29 @@ bond-or P = inl refl
 bond-or R = inr (λ e. true≢false (sym (ap is_bond e)))
 bond-or B = inr (λ e. true≢false (sym (ap is_bond e)))
 
--- the rests from the sums over the faces of both darts
-pub rest-from_sums : (g : Multigraph) (r : List (List ℕ)) (weights sums : List ℕ) → AreFaceSums g r weights sums → (i rest : ℕ) → i < edge_count g
-    → rest + weight_in weights i ≡ max (weight_in sums (2 * i)) (weight_in sums (2 * i + 1)) → IsFaceRest g r (weight_in weights) i rest
-rest-from_sums g r weights sums s i rest l e = record { reached = reached; bounds = bounds }
+-- the rest from the weights of the faces of both darts
+pub rest-from_both : (g : Multigraph) (r : List (List ℕ)) (w : ℕ → ℕ) (i rest s t : ℕ) → s ≡ face_weight g r w (2 * i) → t ≡ face_weight g r w (2 * i + 1) → i < edge_count g → rest + w i ≡ max s t → IsFaceRest g r w i rest
+rest-from_both g r w i rest s t first second l e = record { reached = reached; bounds = bounds }
   where
-    first : weight_in sums (2 * i) ≡ face_weight g r (weight_in weights) (2 * i)
-    first = s.each (2 * i) (omega (arith, l))
-
-    second : weight_in sums (2 * i + 1) ≡ face_weight g r (weight_in weights) (2 * i + 1)
-    second = s.each (2 * i + 1) (omega (arith, l))
-
-    reached : (x : ℕ) × (x < 2 * edge_count g) × (x / 2 ≡ i) × (face_weight g r (weight_in weights) x ≡ weight_in weights i + rest)
-    reached = elim (cases_lt (weight_in sums (2 * i)) (weight_in sums (2 * i + 1))) [
-      | inl a ↦ (2 * i + 1, omega (arith, l), omega arith, let q : max (weight_in sums (2 * i)) (weight_in sums (2 * i + 1)) ≡ weight_in sums (2 * i + 1) = max-eq_right (omega (arith, a)) in omega (arith, q, e, second))
-      | inr a ↦ (2 * i, omega (arith, l), omega arith, let q : max (weight_in sums (2 * i)) (weight_in sums (2 * i + 1)) ≡ weight_in sums (2 * i) = max-eq_left a in omega (arith, q, e, first))
+    reached : (x : ℕ) × (x < 2 * edge_count g) × (x / 2 ≡ i) × (face_weight g r w x ≡ w i + rest)
+    reached = elim (cases_lt s t) [
+      | inl a ↦ (2 * i + 1, omega (arith, l), omega arith, let q : max s t ≡ t = max-eq_right (omega (arith, a)) in omega (arith, q, e, second))
+      | inr a ↦ (2 * i, omega (arith, l), omega arith, let q : max s t ≡ s = max-eq_left a in omega (arith, q, e, first))
     ]
 
-    both : (weight_in sums (2 * i) ≤ weight_in weights i + rest) × (weight_in sums (2 * i + 1) ≤ weight_in weights i + rest)
-    both = elim (cases_lt (weight_in sums (2 * i)) (weight_in sums (2 * i + 1))) [
-      | inl a ↦ let q : max (weight_in sums (2 * i)) (weight_in sums (2 * i + 1)) ≡ weight_in sums (2 * i + 1) = max-eq_right (omega (arith, a)) in (omega (arith, q, e, a), omega (arith, q, e))
-      | inr a ↦ let q : max (weight_in sums (2 * i)) (weight_in sums (2 * i + 1)) ≡ weight_in sums (2 * i) = max-eq_left a in (omega (arith, q, e), omega (arith, q, e, a))
+    both : (s ≤ w i + rest) × (t ≤ w i + rest)
+    both = elim (cases_lt s t) [
+      | inl a ↦ let q : max s t ≡ t = max-eq_right (omega (arith, a)) in (omega (arith, q, e, a), omega (arith, q, e))
+      | inr a ↦ let q : max s t ≡ s = max-eq_left a in (omega (arith, q, e), omega (arith, q, e, a))
     ]
 
     which : (x : ℕ) → x / 2 ≡ i → (x ≡ 2 * i) ⊎ (x ≡ 2 * i + 1)
     which x q = elim (cases_eq x (2 * i)) [ inl a ↦ inl a | inr a ↦ inr (omega (arith, q, a)) ]
 
-    bounds : (x : ℕ) → x < 2 * edge_count g → x / 2 ≡ i → face_weight g r (weight_in weights) x ≤ weight_in weights i + rest
+    bounds : (x : ℕ) → x < 2 * edge_count g → x / 2 ≡ i → face_weight g r w x ≤ w i + rest
     bounds x m q = elim (which x q) [
-      | inl a ↦ omega (arith, both.0, first, ap (face_weight g r (weight_in weights)) a)
-      | inr a ↦ omega (arith, both.1, second, ap (face_weight g r (weight_in weights)) a)
+      | inl a ↦ omega (arith, both.0, first, ap (face_weight g r w) a)
+      | inr a ↦ omega (arith, both.1, second, ap (face_weight g r w) a)
     ]
 
 -- there is one rest only

@@ -1,5 +1,5 @@
 -- Sums of the weights of the darts that have one number.
-use Rattle.std.proofs.Common.{◌≡◌, ℕ, zero, suc, add-one, ◌+◌, ◌*◌, ◌/◌, ◌<◌, ◌≤◌, ◌==◌, Bool, cond, inl, inr, List, length, slice_set, refl, sym, ap, ◌∙◌, subst, arith, eq-eqb}
+use Rattle.std.proofs.Common.{◌≡◌, ◌≢◌, ℕ, zero, suc, add-one, ◌+◌, ◌*◌, ◌/◌, ◌<◌, ◌≤◌, ◌==◌, Bool, cond, inl, inr, List, length, slice_set, refl, sym, ap, ◌∙◌, subst, arith, eq-eqb}
 use Rattle.std.proofs.lemmas.Bool.{cases_Bool, cases_eq, ne_eqb}
 use Rattle.std.proofs.lemmas.List.{get_or-set_same, get_or-set_other}
 use Rattle.permutations.specs.Count.{sum_below}
@@ -65,9 +65,22 @@ totals-more numbers weights totals d l h t k = elim (cases_eq t (number_at numbe
       omega (arith, new, one, h t k, sum-more d (share numbers weights t))
 ]
 
+-- one dart more, which has the number or another
+pub sum-same : (numbers weights : List ℕ) (t d : ℕ) → number_at numbers d ≡ t → sum_below (d + 1) (share numbers weights t) ≡ sum_below d (share numbers weights t) + weight_in weights (d / 2)
+sum-same numbers weights t d e =
+    let one : share numbers weights t d ≡ weight_in weights (d / 2) = ap (λ (b : Bool). cond b (weight_in weights (d / 2)) 0) (eq-eqb t (number_at numbers d) (sym e)) in
+    omega (arith, one, sum-more d (share numbers weights t))
+
+pub sum-other : (numbers weights : List ℕ) (t d : ℕ) → number_at numbers d ≢ t → sum_below (d + 1) (share numbers weights t) ≡ sum_below d (share numbers weights t)
+sum-other numbers weights t d n =
+    let one : share numbers weights t d ≡ 0 = ap (λ (b : Bool). cond b (weight_in weights (d / 2)) 0) (ne_eqb t (number_at numbers d) (λ e. n (sym e))) in
+    omega (arith, one, sum-more d (share numbers weights t))
+
 -- the sum of the number of a dart is the weight of its face
+pub share-face : (g : Multigraph) (r : List (List ℕ)) (numbers weights : List ℕ) → NumberFaces g r numbers → (d : ℕ) → d < dart_count g → sum_below (length numbers) (share numbers weights (number_at numbers d)) ≡ face_weight g r (weight_in weights) d
+share-face g r numbers weights n d l = ap (λ z. sum_below z (share numbers weights (number_at numbers d))) n.darts
+    ∙ sum_below-ext (dart_count g) (share numbers weights (number_at numbers d)) (λ y. cond (on_one_face g r d y) (weight_in weights (y / 2)) 0) (λ y m. ap (λ (b : Bool). cond b (weight_in weights (y / 2)) 0) (n.same d y l m))
+
 pub total-face : (g : Multigraph) (r : List (List ℕ)) (numbers weights totals : List ℕ) → NumberFaces g r numbers → ((t : ℕ) → t < length numbers → weight_in totals t ≡ sum_below (length numbers) (share numbers weights t))
     → (d : ℕ) → d < dart_count g → weight_in totals (number_at numbers d) ≡ face_weight g r (weight_in weights) d
-total-face g r numbers weights totals n h d l = h (number_at numbers d) (subst (λ z. number_at numbers d < z) (sym n.darts) (n.within d l))
-    ∙ ap (λ z. sum_below z (share numbers weights (number_at numbers d))) n.darts
-    ∙ sum_below-ext (dart_count g) (share numbers weights (number_at numbers d)) (λ y. cond (on_one_face g r d y) (weight_in weights (y / 2)) 0) (λ y m. ap (λ (b : Bool). cond b (weight_in weights (y / 2)) 0) (n.same d y l m))
+total-face g r numbers weights totals n h d l = h (number_at numbers d) (subst (λ z. number_at numbers d < z) (sym n.darts) (n.within d l)) ∙ share-face g r numbers weights n d l

@@ -31,10 +31,9 @@ light-first nodes parents below above zero none g b k i l m = elim (what-cases (
 module _ (g : Multigraph) (nodes : List Node) (b : IsBlockTree g nodes) (family : List (List (List ℕ))) (systems : AreSkeletonSystems nodes family)
     (plane : (k : ℕ) → k < length nodes → IsPlane (skeleton_graph nodes k) (system_at family k)) (parents order : List ℕ) (o : IsOrderOf nodes parents order) where
   -- one node more
-  module _ (p : ℕ) (l : p < length order) (below : List ℕ) (number : length below ≡ length nodes) (weights rests : ℕ → ℕ) (value : ℕ)
+  module _ (p : ℕ) (l : p < length order) (below : List ℕ) (number : length below ≡ length nodes) (weights : ℕ → ℕ) (value : ℕ)
       (weigh : (i : ℕ) → i < length (node_at nodes (slice_index_or order p 0)).items → weights i ≡ weights_at nodes parents below 0 (slice_index_or order p 0) i)
-      (rest : (i : ℕ) → i < length (node_at nodes (slice_index_or order p 0)).items → IsRest nodes family (slice_index_or order p 0) weights i (rests i))
-      (noted : (h : ℕ) → h < length (node_at nodes (slice_index_or order p 0)).items → (node_item nodes (slice_index_or order p 0) h).what ≡ Link (parent_at parents (slice_index_or order p 0)) → value ≡ rests h) where
+      (rest : (h : ℕ) → h < length (node_at nodes (slice_index_or order p 0)).items → (node_item nodes (slice_index_or order p 0) h).what ≡ Link (parent_at parents (slice_index_or order p 0)) → IsRest nodes family (slice_index_or order p 0) weights h value) where
     -- the node
     abbrev k : ℕ
     k = slice_index_or order p 0
@@ -83,8 +82,8 @@ module _ (g : Multigraph) (nodes : List Node) (b : IsBlockTree g nodes) (family 
     ]
       where
         own : h < length (node_at nodes k).items → (node_item nodes k h).what ≡ Link t → t ≡ parent_at parents k → IsRest nodes family k (weights_at nodes parents next 0 k) h (slice_index_or next k 0)
-        own c w u = subst (λ z. IsRest nodes family k (weights_at nodes parents next 0 k) h z) (sym (here ∙ noted h c (w ∙ ap Link u)))
-            (rest-other g nodes b family systems plane k k-in weights (weights_at nodes parents next 0 k) h t (rests h) w (λ i c d. weigh i c ∙ stays p i (omega arith) l c) (rest h c))
+        own c w u = subst (λ z. IsRest nodes family k (weights_at nodes parents next 0 k) h z) (sym here)
+            (rest-other g nodes b family systems plane k k-in weights (weights_at nodes parents next 0 k) h t value w (λ i c d. weigh i c ∙ stays p i (omega arith) l c) (rest h c (w ∙ ap Link u)))
 
     -- the links are light still
     pub light-more : AreLight nodes parents below [] → AreLight nodes parents next []
@@ -109,8 +108,7 @@ module _ (g : Multigraph) (nodes : List Node) (b : IsBlockTree g nodes) (family 
         child w u =
             let back = link-from f nodes c parents order o x i k il w in
             let up : x ≡ parent_at parents k = sym (child-parent f nodes c parents order o x i k il w u) in
-            subst (λ z. z ≤ 2 * group_size f nodes x i) (sym (noted back.0 back.1 (back.2 ∙ ap Link up)))
-            (rest-group f nodes c family systems plane k back.0 x i k-in back.1 back.2 il w weights (rests back.0)
+            rest-group f nodes c family systems plane k back.0 x i k-in back.1 back.2 il w weights value
             (λ n e d q. weigh n d ∙ weight-edge (parent_at parents k) (λ j. slice_index_or below j 0) 0 (node_item nodes k n).what e q)
             (λ n d. subst (λ z. z ≤ 2 * group_size f nodes k n) (sym (weigh n d)) (light f c k n k-in d))
-            (rest back.0 back.1))
+            (rest back.0 back.1 (back.2 ∙ ap Link up))

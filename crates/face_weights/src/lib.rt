@@ -14,8 +14,8 @@
 // a face of this length is made from. Whether the block has one is not said here.
 //
 // What a node adds to its item is a rest (`IsRest`). Weights are sums over groups of edges, at most two for each edge of a group,
-// so none is above twice the number of edges. Nothing recurses; all is linear but for the binary searches of `Tree::skeleton`. Only
-// running out of memory is an error.
+// so none is above twice the number of edges. Nothing recurses; all is linear, and what is computed of one node is put into lists that
+// all nodes share. Only running out of memory is an error.
 //
 // The lemmas (module of proofs/ in front):
 //   Numbering    upto-more, orbits-more, steps-tell: orbits numbered along their steps, and that the numbers tell the faces

@@ -10,7 +10,8 @@ ghost use Rattle.spqr_tree.specs.Absent.{absent};
 ghost use Rattle.face_weights.specs.Numbers.{number_at, marks_of, IsOrbitNumbered, AreOrbitsNumbered, NumberFaces};
 
 use crate::ordering::ABSENT;
-use std::alloc::{AllocError, Global};
+use skel_decompose::renew;
+use std::alloc::AllocError;
 
 // Numbers the orbit of `start`, which has no numbers yet: the walk along the steps ends where it began.
 fn number_orbit(steps: &[u32], numbers: &mut [u32], start: u32)
@@ -44,15 +45,15 @@ fn number_orbits(steps: &[u32], numbers: &mut [u32])
     }
 }
 
-/// Numbers the faces that have these face steps, by their darts: each dart has the least dart of its face as its number. In linear
-/// time. Fails only if memory runs out.
-pub fn number_faces(alloc: Global, steps: &[u32]) -> Result<Vec<u32>, AllocError>
+/// Numbers the faces that have these face steps, by their darts: each dart has the least dart of its face as its number. The numbers are put
+/// into `numbers`, in linear time. Fails only if memory runs out.
+pub fn number_faces(steps: &[u32], numbers: &mut Vec<u32>) -> Result<(), AllocError>
     requires { (g : Multigraph) × (r : List (List ℕ)) × IsGraph g × IsWithinLimits g
         × IsRotationSystem g r × AreFaceSteps g r steps.now }
-    ensures { IfOk result (λ numbers. (g : Multigraph) (r : List (List ℕ)) → IsGraph g
-        → IsRotationSystem g r → AreFaceSteps g r steps.now → NumberFaces g r numbers.items) }
+    ensures { IfOk result (λ _. (g : Multigraph) (r : List (List ℕ)) → IsGraph g
+        → IsRotationSystem g r → AreFaceSteps g r steps.now → NumberFaces g r numbers.new.items) }
 {
-    let mut numbers = vec![in alloc; ABSENT; steps.len()]?;
-    number_orbits(steps, &mut numbers);
-    Ok(numbers)
+    renew(numbers, steps.len(), ABSENT)?;
+    number_orbits(steps, numbers);
+    Ok(())
 }

@@ -1,35 +1,59 @@
-// What a node adds to the weight of each of its items: the rest of the heaviest face that has it.
+// What a node adds to the weight of one of its items: the rest of the heaviest face that has it.
 
-ghost use Rattle.std.specs.Prelude.{◌≡◌, ◌<◌, ◌≤◌, ◌*◌, ◌+◌, ◌/◌, ℕ, List, length, max, IfOk};
+ghost use Rattle.std.specs.Prelude.{◌≡◌, ◌<◌, ◌≤◌, ◌*◌, ◌+◌, ◌/◌, ◌==◌, ℕ, List, length, cond, max, IfOk};
 ghost use Rattle.permutations.specs.Count.{sum_below};
-ghost use Rattle.multigraph.specs.Graph.{Multigraph, IsWithinLimits, max_edges};
+ghost use Rattle.multigraph.specs.Graph.{Multigraph, edge_count, IsWithinLimits, max_edges};
 ghost use Rattle.pair_split.specs.Tutte.{node_at};
 ghost use Rattle.skeletons.specs.Items.{IsBlockTree};
-ghost use Rattle.face_weights.specs.Numbers.{KnowFaces};
+ghost use Rattle.face_weights.specs.Numbers.{number_at, KnowFaces, NumberFaces};
 ghost use Rattle.face_weights.specs.Sums.{weight_in};
-ghost use Rattle.face_weights.specs.Rests.{IsOtherMost, IsRest};
+ghost use Rattle.face_weights.specs.Rests.{IsFaceRest, IsOtherMost, IsRest};
 
-use crate::sums::face_sums;
-use multigraph::Numbers;
+use crate::sums::{face_sum, totals_of};
 use pair_split::Kind;
+use skel_decompose::{NumberLists, renew};
 use spqr_tree::Tree;
-use std::alloc::{AllocError, Global};
+use std::alloc::AllocError;
 
-// Of each item the heavier of the faces of its two darts, without the item.
-fn face_rests(alloc: Global, sums: &[u32], weights: &[u32]) -> Result<Vec<u32>, AllocError>
-    requires number { length sums.now ≡ 2 * length weights.now }
-    requires own { (d : ℕ) → d < length sums.now
-        → weight_in weights.now (d / 2) ≤ weight_in sums.now d }
-    ensures number { IfOk result (λ rests. length rests.items ≡ length weights.now) }
-    ensures each { IfOk result (λ rests. (i : ℕ) → i < length weights.now
-        → weight_in rests.items i + weight_in weights.now i
-        ≡ max (weight_in sums.now (2 * i)) (weight_in sums.now (2 * i + 1))) }
+// Of an item the heavier of the faces of its two darts, without the item.
+fn face_rest(numbers: &[u32], weights: &[u32], item: usize) -> u32
+    requires faces { (g : Multigraph) × (r : List (List ℕ)) × NumberFaces g r numbers.now
+        × (length weights.now ≡ edge_count g) }
+    requires few { sum_below (length weights.now) (weight_in weights.now) ≤ 2 * max_edges }
+    requires item { item < length weights.now }
+    ensures { (g : Multigraph) (r : List (List ℕ)) → NumberFaces g r numbers.now
+        → (length weights.now ≡ edge_count g) → IsFaceRest g r (weight_in weights.now) item result }
 {
-    let mut rests = Vec::with_capacity(alloc, weights.len())?;
+    let first = face_sum(numbers, weights, 2 * item);
+    let second = face_sum(numbers, weights, 2 * item + 1);
+    first.max(second) - weights[item]
+}
+
+// The same of each item, where `totals` has the weight of each face at its number.
+fn face_rests(
+    numbers: &[u32],
+    totals: &[u32],
+    weights: &[u32],
+    rests: &mut Vec<u32>,
+) -> Result<(), AllocError>
+    requires number { length numbers.now ≡ 2 * length weights.now }
+    requires within { (d : ℕ) → d < length numbers.now
+        → number_at numbers.now d < length totals.now }
+    requires own { (d : ℕ) → d < length numbers.now → weight_in weights.now (d / 2)
+        ≤ weight_in totals.now (number_at numbers.now d) }
+    ensures number { IfOk result (λ _. length rests.new.items ≡ length weights.now) }
+    ensures each { IfOk result (λ _. (i : ℕ) → i < length weights.now
+        → weight_in rests.new.items i + weight_in weights.now i
+        ≡ max (weight_in totals.now (number_at numbers.now (2 * i)))
+        (weight_in totals.now (number_at numbers.now (2 * i + 1)))) }
+{
+    rests.clear();
     for i in 0..weights.len() {
-        rests.push(sums[2 * i].max(sums[2 * i + 1]) - weights[i])?;
+        let first = totals[numbers[2 * i] as usize];
+        let second = totals[numbers[2 * i + 1] as usize];
+        rests.push(first.max(second) - weights[i])?;
     }
-    Ok(rests)
+    Ok(())
 }
 
 // The place of a greatest weight.
@@ -63,44 +87,64 @@ fn heaviest_other(weights: &[u32], place: usize) -> u32
 }
 
 // Of each item the greatest weight of another.
-fn pair_rests(alloc: Global, weights: &[u32]) -> Result<Vec<u32>, AllocError>
+fn pair_rests(weights: &[u32], rests: &mut Vec<u32>) -> Result<(), AllocError>
     requires several { 2 ≤ length weights.now }
-    ensures number { IfOk result (λ rests. length rests.items ≡ length weights.now) }
-    ensures each { IfOk result (λ rests. (i : ℕ) → i < length weights.now
-        → IsOtherMost (length weights.now) (weight_in weights.now) i (weight_in rests.items i)) }
+    ensures number { IfOk result (λ _. length rests.new.items ≡ length weights.now) }
+    ensures each { IfOk result (λ _. (i : ℕ) → i < length weights.now
+        → IsOtherMost (length weights.now) (weight_in weights.now) i (weight_in rests.new.items i)) }
 {
     let place = heaviest(weights);
     let second = heaviest_other(weights, place);
-    let mut rests = vec![in alloc; weights[place]; weights.len()]?;
+    renew(rests, weights.len(), weights[place])?;
     rests[place] = second;
-    Ok(rests)
+    Ok(())
 }
 
-// What node k adds to each of its items, of these weights.
-pub(crate) fn rests_of(
-    alloc: Global,
-    tree: &Tree,
-    faces: &[Numbers],
-    k: u32,
-    weights: &[u32],
-) -> Result<Vec<u32>, AllocError>
+// What node k adds to one of its items, of these weights.
+pub(crate) fn rest_at(tree: &Tree, faces: &NumberLists, k: u32, weights: &[u32], item: usize) -> u32
     requires block { (g : Multigraph) × IsBlockTree g tree.now × IsWithinLimits g }
     requires faces { (family : List (List (List ℕ))) × KnowFaces tree.now family faces.now }
     requires node { k < length tree.now }
     requires number { length weights.now ≡ length (node_at tree.now k).items }
     requires few { sum_below (length (node_at tree.now k).items) (weight_in weights.now)
         ≤ 2 * max_edges }
-    ensures number { IfOk result (λ rests. length rests.items
-        ≡ length (node_at tree.now k).items) }
-    ensures each { IfOk result (λ rests. (family : List (List (List ℕ))) → KnowFaces tree.now family faces.now
-        → (i : ℕ) → i < length (node_at tree.now k).items
-        → IsRest tree.now family k (weight_in weights.now) i (weight_in rests.items i)) }
+    requires item { item < length (node_at tree.now k).items }
+    ensures { (family : List (List (List ℕ))) → KnowFaces tree.now family faces.now
+        → IsRest tree.now family k (weight_in weights.now) item result }
 {
     match tree.kind(k) {
-        Kind::P => pair_rests(alloc, weights),
+        Kind::P => heaviest_other(weights, item),
+        Kind::S | Kind::R | Kind::B => face_rest(faces.at(k as usize), weights, item),
+    }
+}
+
+// The same of each item. `totals` is changed on the way.
+pub(crate) fn rests_of(
+    tree: &Tree,
+    faces: &NumberLists,
+    k: u32,
+    weights: &[u32],
+    totals: &mut Vec<u32>,
+    rests: &mut Vec<u32>,
+) -> Result<(), AllocError>
+    requires block { (g : Multigraph) × IsBlockTree g tree.now × IsWithinLimits g }
+    requires faces { (family : List (List (List ℕ))) × KnowFaces tree.now family faces.now }
+    requires node { k < length tree.now }
+    requires number { length weights.now ≡ length (node_at tree.now k).items }
+    requires few { sum_below (length (node_at tree.now k).items) (weight_in weights.now)
+        ≤ 2 * max_edges }
+    ensures number { IfOk result (λ _. length rests.new.items
+        ≡ length (node_at tree.now k).items) }
+    ensures each { IfOk result (λ _. (family : List (List (List ℕ))) → KnowFaces tree.now family faces.now
+        → (i : ℕ) → i < length (node_at tree.now k).items
+        → IsRest tree.now family k (weight_in weights.now) i (weight_in rests.new.items i)) }
+{
+    match tree.kind(k) {
+        Kind::P => pair_rests(weights, rests),
         Kind::S | Kind::R | Kind::B => {
-            let sums = face_sums(alloc, faces[k as usize].as_slice(), weights)?;
-            face_rests(alloc, &sums, weights)
+            let numbers = faces.at(k as usize);
+            totals_of(numbers, weights, totals)?;
+            face_rests(numbers, totals, weights, rests)
         }
     }
 }

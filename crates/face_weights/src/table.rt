@@ -9,7 +9,7 @@ ghost use Rattle.face_weights.specs.Sums.{weight_in};
 
 use crate::weighing::weights_of;
 use spqr_tree::Tree;
-use std::alloc::{AllocError, Global};
+use std::alloc::AllocError;
 use std::marker::Model;
 
 /// The weights of the items of a tree, the greatest weight of a face, and a node that reaches it.
@@ -51,18 +51,18 @@ impl Weights {
         self.top
     }
 
-    /// The weights of the items of node `k`, in their order. Fails only if memory runs out.
-    pub fn of_node(&self, alloc: Global, tree: &Tree, k: u32) -> Result<Vec<u32>, AllocError>
+    /// Puts the weights of the items of node `k` into `weights`, in their order. Fails only if memory runs out.
+    pub fn of_node(&self, tree: &Tree, k: u32, weights: &mut Vec<u32>) -> Result<(), AllocError>
         requires block { (g : Multigraph) × IsBlockTree g tree.now × IsWithinLimits g }
         requires sized { IsSized tree.now self.now }
         requires node { k < length tree.now }
-        ensures number { IfOk result (λ weights. length weights.items
+        ensures number { IfOk result (λ _. length weights.new.items
             ≡ length (node_at tree.now k).items) }
-        ensures each { IfOk result (λ weights. (i : ℕ) → i < length (node_at tree.now k).items
-            → weight_in weights.items i ≡ weight_of tree.now self.now k i) }
+        ensures each { IfOk result (λ _. (i : ℕ) → i < length (node_at tree.now k).items
+            → weight_in weights.new.items i ≡ weight_of tree.now self.now k i) }
     {
         let parent = self.parents[k as usize];
         let above = self.above[k as usize];
-        weights_of(alloc, tree.items(k), parent, &self.below, above)
+        weights_of(tree.items(k), parent, &self.below, above, weights)
     }
 }

@@ -2,6 +2,8 @@
 
 ghost use Rattle.std.specs.Prelude.{◌≡◌, ◌<◌, ◌≤◌, ◌*◌, ◌+◌, ℕ, List, [], length, IfOk};
 ghost use Rattle.multigraph.specs.Graph.{Multigraph, IsWithinLimits, max_edges};
+ghost use Rattle.permutations.specs.Count.{sum_below};
+ghost use Rattle.pair_split.specs.Tutte.{node_at, node_item};
 ghost use Rattle.pair_split.specs.declared.components.What.TheVariants.{Link};
 ghost use Rattle.skeletons.specs.Items.{nth_item, IsBlockTree};
 ghost use Rattle.face_weights.specs.Numbers.{KnowFaces};
@@ -12,29 +14,29 @@ ghost use Rattle.face_weights.specs.Sums.{weight_in};
 ghost use Rattle.face_weights.specs.Passes.{LinkOnce, IsOrderOf, AreBelow, AreDone, AreLight, AreHandedDown};
 
 use crate::ordering::{ABSENT, order_of};
-use crate::rests::rests_of;
+use crate::rests::{rest_at, rests_of};
 use crate::table::Weights;
-use multigraph::Numbers;
 use pair_split::{Item, What};
+use skel_decompose::NumberLists;
 use spqr_tree::Tree;
 use std::alloc::{AllocError, Global};
 
-// The weights of the items of a node with this parent.
+// Puts the weights of the items of a node with this parent into `weights`.
 pub(crate) fn weights_of(
-    alloc: Global,
     items: &[Item],
     parent: u32,
     below: &[u32],
     above: u32,
-) -> Result<Vec<u32>, AllocError>
+    weights: &mut Vec<u32>,
+) -> Result<(), AllocError>
     requires within { (i j : ℕ) → i < length items.now
         → (nth_item items.now i).what ≡ Link j → j < length below.now }
-    ensures number { IfOk result (λ weights. length weights.items ≡ length items.now) }
-    ensures each { IfOk result (λ weights. (i : ℕ) → i < length items.now
-        → weight_in weights.items i
+    ensures number { IfOk result (λ _. length weights.new.items ≡ length items.now) }
+    ensures each { IfOk result (λ _. (i : ℕ) → i < length items.now
+        → weight_in weights.new.items i
         ≡ weight_by parent (weight_in below.now) above (nth_item items.now i).what) }
 {
-    let mut weights = Vec::with_capacity(alloc, items.len())?;
+    weights.clear();
     for item in items {
         weights.push(match item.what {
             What::Real(_) => 1,
@@ -47,19 +49,26 @@ pub(crate) fn weights_of(
             }
         })?;
     }
-    Ok(weights)
+    Ok(())
 }
 
-// The rest at the link to the parent; none at the root.
-fn rest_at_parent(items: &[Item], parent: u32, rests: &[u32]) -> u32
-    requires number { length rests.now ≡ length items.now }
-    requires once { LinkOnce items.now }
-    ensures { (h : ℕ) → h < length items.now → (nth_item items.now h).what ≡ Link parent
-        → result ≡ weight_in rests.now h }
+// What node k adds to its link to the parent, of these weights; none at the root.
+fn rest_at_parent(tree: &Tree, faces: &NumberLists, k: u32, parent: u32, weights: &[u32]) -> u32
+    requires block { (g : Multigraph) × IsBlockTree g tree.now × IsWithinLimits g }
+    requires faces { (family : List (List (List ℕ))) × KnowFaces tree.now family faces.now }
+    requires node { k < length tree.now }
+    requires number { length weights.now ≡ length (node_at tree.now k).items }
+    requires few { sum_below (length (node_at tree.now k).items) (weight_in weights.now)
+        ≤ 2 * max_edges }
+    ensures { (family : List (List (List ℕ))) → KnowFaces tree.now family faces.now
+        → (h : ℕ) → h < length (node_at tree.now k).items
+        → (node_item tree.now k h).what ≡ Link parent
+        → IsRest tree.now family k (weight_in weights.now) h result }
 {
+    let items = tree.items(k);
     for h in 0..items.len() {
         if items[h].what == What::Link(parent) {
-            return rests[h];
+            return rest_at(tree, faces, k, weights, h);
         }
     }
     0
@@ -69,7 +78,7 @@ fn rest_at_parent(items: &[Item], parent: u32, rests: &[u32]) -> u32
 fn pass_up(
     alloc: Global,
     tree: &Tree,
-    faces: &[Numbers],
+    faces: &NumberLists,
     parents: &[u32],
     order: &[u32],
 ) -> Result<Vec<u32>, AllocError>
@@ -83,15 +92,15 @@ fn pass_up(
         → AreBelow tree.now family parents.now order.now 0 below.items) }
 {
     let mut below = vec![in alloc; 0; tree.node_count() as usize]?;
+    let mut weights = Vec::new(alloc);
     let mut p = order.len();
     while p > 0 {
         p -= 1;
         let k = order[p];
         let items = tree.items(k);
         let parent = parents[k as usize];
-        let weights = weights_of(alloc, items, parent, &below, 0)?;
-        let rests = rests_of(alloc, tree, faces, k, &weights)?;
-        below[k as usize] = rest_at_parent(items, parent, &rests);
+        weights_of(items, parent, &below, 0, &mut weights)?;
+        below[k as usize] = rest_at_parent(tree, faces, k, parent, &weights);
     }
     Ok(below)
 }
@@ -135,7 +144,7 @@ fn greatest_sum(weights: &[u32], rests: &[u32]) -> u32
 fn pass_down(
     alloc: Global,
     tree: &Tree,
-    faces: &[Numbers],
+    faces: &NumberLists,
     parents: &[u32],
     order: &[u32],
     below: &[u32],
@@ -151,14 +160,15 @@ fn pass_down(
         → AreDone tree.now family parents.now order.now below.now r.0.items (length order.now) r.1 r.2) }
 {
     let mut above = vec![in alloc; 0; tree.node_count() as usize]?;
+    let (mut weights, mut totals, mut rests) = (Vec::new(alloc), Vec::new(alloc), Vec::new(alloc));
     let mut most = 0;
     let mut top = 0;
     for p in 0..order.len() {
         let k = order[p];
         let items = tree.items(k);
         let parent = parents[k as usize];
-        let weights = weights_of(alloc, items, parent, below, above[k as usize])?;
-        let rests = rests_of(alloc, tree, faces, k, &weights)?;
+        weights_of(items, parent, below, above[k as usize], &mut weights)?;
+        rests_of(tree, faces, k, &weights, &mut totals, &mut rests)?;
         hand_down(items, parent, &rests, &mut above);
         let sum = greatest_sum(&weights, &rests);
         if most <= sum {
@@ -175,7 +185,7 @@ fn pass_down(
 ///
 /// The faces are those of the skeletons in a family of plane rotation systems, by the numbers of their darts. In linear time.
 /// Fails only if memory runs out.
-pub fn weigh(alloc: Global, tree: &Tree, faces: &[Numbers]) -> Result<Weights, AllocError>
+pub fn weigh(alloc: Global, tree: &Tree, faces: &NumberLists) -> Result<Weights, AllocError>
     requires block { (g : Multigraph) × IsBlockTree g tree.now × IsWithinLimits g }
     requires faces { (family : List (List (List ℕ))) × KnowFaces tree.now family faces.now }
     ensures { IfOk result (λ w. (family : List (List (List ℕ))) → KnowFaces tree.now family faces.now

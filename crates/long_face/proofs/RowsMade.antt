@@ -1,7 +1,7 @@
 -- The rows of the nodes, and that all is ready for the walk.
 use Rattle.std.proofs.Common.{◌≡◌, ℕ, ◌+◌, ◌*◌, ◌/◌, ◌<◌, ◌≤◌, cond, List, [], ◌∷◌, ◌++◌, length, slice_index_or, inl, inr, refl, sym, ap, ◌∙◌, subst, arith}
 use Rattle.std.proofs.lemmas.Bool.{cases_eq}
-use Rattle.std.proofs.lemmas.List.{get_or_default, length-append, get_or_push, get_or_append_left}
+use Rattle.std.proofs.lemmas.List.{length-append, get_or_push, get_or_append_left}
 use Rattle.permutations.specs.Count.{sum_below}
 use Rattle.permutations.proofs.Sums.{sum_below-ext}
 use Rattle.multigraph.specs.Graph.{Multigraph, IsWithinLimits, edge_count, max_edges}
@@ -66,9 +66,9 @@ module _ (g : Multigraph) (nodes : List Node) (b : IsBlockTree g nodes) (limits 
   }
 
 -- the steps of a node as they are read
-pub row-steps : (nodes : List Node) (family : List (List (List ℕ))) (rows : List (List ℕ)) → AreStepsOf nodes family rows → (k : ℕ) → k < length nodes → (row : List ℕ) → row ≡ slice_index_or rows k row → (seen : List ℕ) → seen ≡ row
+pub row-steps : (nodes : List Node) (family : List (List (List ℕ))) (rows : List (List ℕ)) → AreStepsOf nodes family rows → (k : ℕ) → k < length nodes → (seen : List ℕ) → seen ≡ slice_index_or rows k []
     → AreFaceSteps (skeleton_graph nodes k) (system_at family k) seen
-row-steps nodes family rows steps k l row e seen q = subst (AreFaceSteps (skeleton_graph nodes k) (system_at family k)) (sym (q ∙ e ∙ get_or_default rows k row [] (subst (λ n. k < n) (sym steps.each) l))) (steps.steps k l)
+row-steps nodes family rows steps k l seen q = subst (AreFaceSteps (skeleton_graph nodes k) (system_at family k)) (sym q) (steps.steps k l)
 
 -- they are numbers of faces
 pub row-tells : (g : Multigraph) (r : List (List ℕ)) (numbers copy : List ℕ) → NumberFaces g r numbers → copy ≡ numbers → AreFaceNumbers g r copy

@@ -13,7 +13,7 @@ use crate::rows::Rows;
 use crate::walking::wants_from;
 use crate::wants::Want;
 use face_weights::{ABSENT, Weights, face_sums, order_from};
-use multigraph::Numbers;
+use skel_decompose::NumberLists;
 use spqr_tree::Tree;
 use std::alloc::{AllocError, Global};
 
@@ -21,7 +21,7 @@ use std::alloc::{AllocError, Global};
 fn row_of(
     alloc: Global,
     tree: &Tree,
-    faces: &[Numbers],
+    faces: &NumberLists,
     weights: &Weights,
     k: u32,
 ) -> Result<Rows, AllocError>
@@ -33,9 +33,11 @@ fn row_of(
         → AreWeights tree.now family weights.now
         → AreRowsOf tree.now family (weight_of tree.now weights.now) k row) }
 {
-    let numbers = faces[k as usize].as_slice();
-    let items = weights.of_node(alloc, tree, k)?;
-    let sums = face_sums(alloc, numbers, &items)?;
+    let numbers = faces.at(k as usize);
+    let mut items = Vec::new(alloc);
+    weights.of_node(tree, k, &mut items)?;
+    let (mut totals, mut sums) = (Vec::new(alloc), Vec::new(alloc));
+    face_sums(numbers, &items, &mut totals, &mut sums)?;
     Ok(Rows {
         weights: items,
         sums,
@@ -47,7 +49,7 @@ fn row_of(
 fn rows_of(
     alloc: Global,
     tree: &Tree,
-    faces: &[Numbers],
+    faces: &NumberLists,
     weights: &Weights,
 ) -> Result<Vec<Rows>, AllocError>
     requires block { (g : Multigraph) × IsBlockTree g tree.now × IsWithinLimits g }
@@ -69,7 +71,7 @@ fn rows_of(
 pub(crate) fn wants_of(
     alloc: Global,
     tree: &Tree,
-    faces: &[Numbers],
+    faces: &NumberLists,
     weights: &Weights,
 ) -> Result<Vec<Option<Want>>, AllocError>
     requires block { (g : Multigraph) × IsBlockTree g tree.now × IsWithinLimits g }

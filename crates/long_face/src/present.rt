@@ -47,8 +47,10 @@ pub(crate) fn has_face(alloc: Global, g: &Graph, r: &Rotation, len: u32) -> Resu
 {
     g.keeps_limits();
     let steps = steps_of(alloc, g, r)?;
-    let numbers = number_faces(alloc, &steps)?;
+    let mut numbers = Vec::new(alloc);
+    number_faces(&steps, &mut numbers)?;
     let ones = vec![in alloc; 1; g.edge_count() as usize]?;
-    let lengths = face_sums(alloc, &numbers, &ones)?;
+    let (mut totals, mut lengths) = (Vec::new(alloc), Vec::new(alloc));
+    face_sums(&numbers, &ones, &mut totals, &mut lengths)?;
     Ok(lengths.contains(&len))
 }

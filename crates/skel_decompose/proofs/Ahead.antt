@@ -99,6 +99,13 @@ module _ (g : Multigraph) (nodes : List Node) (r : List (List ℕ)) (d : IsInRun
         there = round-item g nodes t k on.is_node (system_at family k) v (successor order i) (m.systems.systems k on.is_node) has
             (successor-member order i (item-round g nodes t k on.is_node (system_at family k) v i (m.systems.systems k on.is_node) has on.is_item on.end))
 
+    -- the link back has e beyond it
+    pub back-has : (x q : ℕ) → (node_item nodes k p).what ≡ Link x → q < length (node_at nodes x).items → ((node_item nodes x q).what ≡ Link k) ⊎ ((node_item nodes x q).key ≡ group nodes x e) → (node_item nodes x q).key ≡ group nodes x e
+    back-has x q wp lq found = elim found [
+      | inl wq ↦ sym (goes-on g nodes d.block family m.systems r d.system m.follows v e le ve k i p on lp behind x q ep wp lq wq).own
+      | inr own ↦ own
+    ]
+
     -- towards a node that is not beyond the item of e, the next edge is beyond the item
     beyond-next : (j h : ℕ) → IsLastOf nodes r v e j h → j ≢ k → IsOpen nodes e k j → (w : Toward g nodes t k j) → group nodes k next ≡ (node_item nodes k w.place).key
     beyond-next j h last n clear w = group-either g nodes t j k next n u w ln (λ z. no-both e u.next (sym (last.apart (z ∙ sym there ∙ last.own)) ∙ ap (λ y. (node_item nodes j y).what) item ∙ u.is_link))

@@ -1,6 +1,6 @@
 -- A table that has what follows the last edges of all runs has what follows each item.
-use Rattle.std.proofs.Common.{◌≡◌, ℕ, ◌<◌, ◌==◌, inl, inr, true, List, length, slice_index_or, sym, ap, ◌∙◌, subst, eq-eqb, eqb-true}
-use Rattle.std.proofs.lemmas.Bool.{cases_eq, or_left, or_right}
+use Rattle.std.proofs.Common.{◌≡◌, ℕ, ◌+◌, ◌<◌, ◌==◌, inl, inr, true, List, length, slice_index_or, sym, ap, ◌∙◌, subst, arith, eq-eqb, eqb-true}
+use Rattle.std.proofs.lemmas.Bool.{cases_eq, or_cases, or_left, or_right}
 use Rattle.permutations.specs.Cyclic.{successor}
 use Rattle.permutations.specs.Members.{is_member}
 use Rattle.permutations.proofs.Chains.{chain-test}
@@ -17,7 +17,7 @@ use Rattle.skeletons.specs.Items.{has_vertex}
 use Rattle.skeletons.proofs.NodeItems.{nth_item, node-in, stands-of, item-of, item-edge, item-vertex, group-is, outside-edge}
 use Rattle.skel_compose.specs.Homes.{IsHome}
 use Rattle.skel_compose.proofs.Walk.{order-edge_at}
-use Rattle.skel_decompose.specs.Followers.{IsInRuns, IsItemEnd, follower, row_at, item_place, HasFollower, HasLast, HasLasts}
+use Rattle.skel_decompose.specs.Followers.{IsInRuns, IsItemEnd, follower, row_at, item_place, HasFollower, Keeps, HasLast, HasLasts}
 
 module _ (g : Multigraph) (nodes : List Node) (r : List (List ℕ)) (d : IsInRuns g nodes r) (family : List (List (List ℕ))) (table : List (List ℕ)) where
   abbrev t : IsTutte g nodes
@@ -91,3 +91,43 @@ ends-first g e a q = or_left ((ends_of g e).0 == a) ((ends_of g e).1 == a) (eq-e
 
 pub ends-second : (g : Multigraph) (e a : ℕ) → a ≡ (ends_of g e).1 → is_end g a e ≡ true
 ends-second g e a q = or_right ((ends_of g e).0 == a) ((ends_of g e).1 == a) (eq-eqb (ends_of g e).1 a (sym q))
+
+-- the last edges of one item more
+module _ (g : Multigraph) (nodes : List Node) (r : List (List ℕ)) (family : List (List (List ℕ))) (k n : ℕ) (old : List (List ℕ)) (lasts : HasLasts g nodes r family k n old) where
+  carried : (new : List (List ℕ)) → Keeps nodes family old new → (v e : ℕ) → HasLast nodes r family old v e → HasLast nodes r family new v e
+  carried new keeps v e h j i last = keeps j i v last.place (h j i last)
+
+  -- an edge, walked from at both ends
+  pub lasts-more : (x a b : ℕ) (mid new : List (List ℕ)) → IsHome nodes k n x → a ≡ (ends_of g x).0 → b ≡ (ends_of g x).1 → Keeps nodes family old mid → HasLast nodes r family mid a x → Keeps nodes family mid new → HasLast nodes r family new b x
+      → HasLasts g nodes r family k (n + 1) new
+  lasts-more x a b mid new home first second one has two last = record {
+    before = λ j i e v l h t. carried new both v e (lasts.before j i e v l h t);
+    here = λ i e v l h t. elim (cases_eq i n) [
+      | inr d ↦ carried new both v e (lasts.here i e v (omega (arith, l, d)) h t)
+      | inl q ↦
+          let same : x ≡ e = real-same x e (sym home.is_edge ∙ ap (λ z. (node_item nodes k z).what) (sym q) ∙ h.is_edge) in
+          subst (λ z. HasLast nodes r family new v z) same (own v (subst (λ z. is_end g v z ≡ true) (sym same) t))
+    ];
+  }
+    where
+      both : Keeps nodes family old new
+      both j i v m h = two j i v m (one j i v m h)
+
+      real-same : (y z : ℕ) → Real y ≡ Real z → y ≡ z
+      real-same y z q = grind (arith, q)
+
+      own : (v : ℕ) → is_end g v x ≡ true → HasLast nodes r family new v x
+      own v t = elim (or_cases ((ends_of g x).0 == v) ((ends_of g x).1 == v) t) [
+        | inl q ↦ subst (λ z. HasLast nodes r family new z x) (first ∙ eqb-true (ends_of g x).0 v q) (λ j i m. two j i a m.place (has j i m))
+        | inr q ↦ subst (λ z. HasLast nodes r family new z x) (second ∙ eqb-true (ends_of g x).1 v q) last
+      ]
+
+  -- another item
+  pub lasts-pass : ((e : ℕ) → IsHome nodes k n e → ⊥) → HasLasts g nodes r family k (n + 1) old
+  lasts-pass none = record {
+    before = lasts.before;
+    here = λ i e v l h t. elim (cases_eq i n) [
+      | inr d ↦ lasts.here i e v (omega (arith, l, d)) h t
+      | inl q ↦ absurd (none e (subst (λ z. IsHome nodes k z e) q h))
+    ];
+  }

@@ -1,4 +1,5 @@
 -- Lemmas on the table of what follows each item, and on the walks that fill it.
+pub mod Flat
 mod Searched
 mod Nearby
 mod Written

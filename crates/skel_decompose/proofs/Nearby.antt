@@ -15,36 +15,36 @@ use Rattle.skel_compose.proofs.Found.{home-is}
 use Rattle.skel_decompose.specs.Neighbors.{IsLinkTo, AreNeighbors}
 
 -- the parts of what is known
-abbrev parts : Option (ℕ × ℕ × ℕ) → ℕ × ℕ × ℕ
-parts None = (0, 0, 0)
+abbrev parts : Option (ℕ × ℕ) → ℕ × ℕ
+parts None = (0, 0)
 parts (Some t) = t
 
-none-some : (t : ℕ × ℕ × ℕ) → None ≡ Some t → ⊥
+none-some : (t : ℕ × ℕ) → None ≡ Some t → ⊥
 none-some t q = absurd (cc)
 
 -- one node more of which nothing is known
-pub unknown-push : (items : List (Option (ℕ × ℕ × ℕ))) → ((x : ℕ) → slice_index_or items x None ≡ None) → (x : ℕ) → slice_index_or (items ++ None ∷ []) x None ≡ None
+pub unknown-push : (items : List (Option (ℕ × ℕ))) → ((x : ℕ) → slice_index_or items x None ≡ None) → (x : ℕ) → slice_index_or (items ++ None ∷ []) x None ≡ None
 unknown-push [] h zero = refl
 unknown-push [] h (suc x) = refl
 unknown-push (y ∷ items) h zero = h 0
 unknown-push (y ∷ items) h (suc x) = unknown-push items (λ z. h (suc z)) x
 
 -- at first nothing is known
-pub neighbors-none : (nodes : List Node) (neighbors : List (Option (ℕ × ℕ × ℕ))) → length neighbors ≡ length nodes → ((x : ℕ) → slice_index_or neighbors x None ≡ None) → AreNeighbors nodes neighbors
+pub neighbors-none : (nodes : List Node) (neighbors : List (Option (ℕ × ℕ))) → length neighbors ≡ length nodes → ((x : ℕ) → slice_index_or neighbors x None ≡ None) → AreNeighbors nodes neighbors
 neighbors-none nodes neighbors e h = record {
   each = e;
-  known = λ x k i size q. absurd (none-some (k, i, size) (sym (h x) ∙ q));
+  known = λ x k i q. absurd (none-some (k, i) (sym (h x) ∙ q));
 }
 
 -- a neighbor more
-pub neighbors-put : (nodes : List Node) (old : List (Option (ℕ × ℕ × ℕ))) (k i size x : ℕ) → AreNeighbors nodes old → x < length nodes → IsLinkTo nodes k i x → AreNeighbors nodes (slice_set old x (Some (k, i, size)))
-neighbors-put nodes old k i size x a l w = record {
-  each = length-set old x (Some (k, i, size)) ∙ a.each;
-  known = λ y j h m q. elim (cases_eq y x) [
+pub neighbors-put : (nodes : List Node) (old : List (Option (ℕ × ℕ))) (k i x : ℕ) → AreNeighbors nodes old → x < length nodes → IsLinkTo nodes k i x → AreNeighbors nodes (slice_set old x (Some (k, i)))
+neighbors-put nodes old k i x a l w = record {
+  each = length-set old x (Some (k, i)) ∙ a.each;
+  known = λ y j h q. elim (cases_eq y x) [
     | inl e ↦
-        let same : (k, i, size) ≡ (j, h, m) = ap parts (sym (get_or-set_same old x (Some (k, i, size)) None (subst (λ n. x < n) (sym a.each) l)) ∙ sym (ap (λ z. slice_index_or (slice_set old x (Some (k, i, size))) z None) e) ∙ q) in
-        subst (λ z. IsLinkTo nodes j h z) (sym e) (subst (λ (t : ℕ × ℕ × ℕ). IsLinkTo nodes t.0 t.1 x) same w)
-    | inr n ↦ a.known y j h m (sym (get_or-set_other old x y (Some (k, i, size)) None n) ∙ q)
+        let same : (k, i) ≡ (j, h) = ap parts (sym (get_or-set_same old x (Some (k, i)) None (subst (λ n. x < n) (sym a.each) l)) ∙ sym (ap (λ z. slice_index_or (slice_set old x (Some (k, i))) z None) e) ∙ q) in
+        subst (λ z. IsLinkTo nodes j h z) (sym e) (subst (λ (t : ℕ × ℕ). IsLinkTo nodes t.0 t.1 x) same w)
+    | inr n ↦ a.known y j h (sym (get_or-set_other old x y (Some (k, i)) None n) ∙ q)
   ];
 }
 

@@ -1,5 +1,5 @@
 -- The face steps of a skeleton, told by what follows its items.
-use Rattle.std.proofs.Common.{◌≡◌, ℕ, ◌+◌, ◌*◌, ◌<◌, ◌==◌, if◌then◌else◌, inl, inr, Bool, true, List, [], ◌∷◌, ◌++◌, length, slice_index_or, refl, sym, ap, ap₂, ◌∙◌, subst, arith, eq-eqb, eqb-true}
+use Rattle.std.proofs.Common.{◌≡◌, ℕ, ◌+◌, ◌*◌, ◌<◌, ◌==◌, if◌then◌else◌, inl, inr, Bool, true, List, [], ◌∷◌, ◌++◌, length, slice_index_or, refl, sym, ap, ◌∙◌, subst, arith, eq-eqb, eqb-true}
 use Rattle.std.proofs.lemmas.Bool.{cases_eq, or_left, or_right}
 use Rattle.std.proofs.lemmas.List.{get_or_push, get_or_append_left}
 use Rattle.permutations.specs.Members.{place_of}
@@ -16,13 +16,12 @@ use Rattle.skeletons.proofs.NodeItems.{item-vertex}
 use Rattle.skeletons.proofs.Places.{round-item, item-round}
 use Rattle.skeleton_runs.proofs.NodeFits.{item-first}
 use Rattle.skeleton_runs.proofs.SkeletonGraph.{place-once, graph-ends}
-use Rattle.skel_decompose.specs.Followers.{IsItemEnd, item_place, row_at, follower, IsTable, HasFollowers}
-use Rattle.skel_decompose.proofs.Written.{row-read}
+use Rattle.skel_decompose.specs.Followers.{IsItemEnd, item_place, row_at, follower, HasFollowers}
 
 -- what is read from the table is what follows
-pub next-is : (nodes : List Node) (table : List (List ℕ)) → IsTable nodes table → (k : ℕ) → k < length nodes → (row : List ℕ) → row ≡ slice_index_or table k row → (i v : ℕ) → IsItemEnd nodes k i v → (place x : ℕ) → place ≡ item_place nodes k i v → x ≡ slice_index_or row place 0
+pub next-is : (nodes : List Node) (table : List (List ℕ)) (k i v : ℕ) → IsItemEnd nodes k i v → (place x : ℕ) → place ≡ item_place nodes k i v → x ≡ slice_index_or (row_at table k) place 0
     → (family : List (List (List ℕ))) → HasFollowers nodes family table → x ≡ follower nodes family k i v
-next-is nodes table t k dk row r i v m place x p e family h = e ∙ ap₂ (λ (z : List ℕ) (y : ℕ). slice_index_or z y 0) (row-read nodes table t k dk row r) p ∙ h k i v m
+next-is nodes table k i v m place x p e family h = e ∙ ap (λ z. slice_index_or (row_at table k) z 0) p ∙ h k i v m
 
 module _ (g : Multigraph) (nodes : List Node) (b : IsBlockTree g nodes) (k : ℕ) (dk : k < length nodes) where
   abbrev vertices : List ℕ

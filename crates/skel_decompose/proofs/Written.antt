@@ -1,7 +1,7 @@
 -- What a table has after one entry is written.
-use Rattle.std.proofs.Common.{◌≡◌, ◌≢◌, ℕ, ◌+◌, ◌*◌, ◌<◌, ◌==◌, ◌||◌, if◌then◌else◌, inl, inr, Bool, true, false, List, [], length, slice_index_or, slice_set, sym, ap, ap₂, ◌∙◌, subst, arith, eqb-true}
+use Rattle.std.proofs.Common.{◌≡◌, ◌≢◌, ℕ, ◌+◌, ◌*◌, ◌<◌, ◌==◌, ◌||◌, if◌then◌else◌, inl, inr, Bool, true, false, List, [], length, slice_index_or, slice_set, sym, ap, ◌∙◌, subst, arith, eqb-true}
 use Rattle.std.proofs.lemmas.Bool.{cases_eq, cases_Bool, or_cases, both_ways}
-use Rattle.std.proofs.lemmas.List.{get_or-set_same, get_or-set_other, length-set, get_or_default}
+use Rattle.std.proofs.lemmas.List.{get_or-set_same, get_or-set_other, length-set}
 use Rattle.pair_split.specs.Tutte.{Node, node_at, node_item}
 use Rattle.skeletons.specs.Items.{ends_item}
 use Rattle.skel_decompose.specs.Followers.{IsItemEnd, item_place, row_at, follower, HasFollower, IsTable, Keeps}
@@ -82,29 +82,23 @@ module _ (nodes : List Node) (table : List (List ℕ)) (t : IsTable nodes table)
         | inl same ↦ let o = place-once nodes k h i w v d m.end same in subst (λ z. HasFollower nodes family written_table k z w) (sym o.0) (subst (λ z. HasFollower nodes family written_table k i z) (sym o.1) (written family e))
       ]
 
--- the table after an entry is written in a row of it
-module _ (nodes : List Node) (table : List (List ℕ)) (t : IsTable nodes table) (k i v x : ℕ) (m : IsItemEnd nodes k i v) (row new : List ℕ) (place : ℕ) (e : new ≡ slice_set (slice_index_or table k row) place x) (q : place ≡ item_place nodes k i v) where
-  row-is : slice_index_or table k row ≡ row_at table k
-  row-is = get_or_default table k row [] (subst (λ n. k < n) (sym t.each) m.is_node)
+-- the table after an entry is written
+module _ (nodes : List Node) (table : List (List ℕ)) (t : IsTable nodes table) (k i v x : ℕ) (m : IsItemEnd nodes k i v) (place : ℕ) (q : place ≡ item_place nodes k i v) where
+  pub put-within : place < length (row_at table k)
+  put-within = omega (arith, q, place-in nodes table t k i v x m)
 
-  table-is : written_table nodes table t k i v x m ≡ slice_set table k new
-  table-is = sym (ap (slice_set table k) (e ∙ ap₂ (λ (z : List ℕ) (y : ℕ). slice_set z y x) row-is q))
+  module _ (new : List (List ℕ)) (e : new ≡ slice_set table k (slice_set (row_at table k) place x)) where
+    table-is : written_table nodes table t k i v x m ≡ new
+    table-is = sym (e ∙ ap (λ z. slice_set table k (slice_set (row_at table k) z x)) q)
 
-  pub put-within : place < length (slice_index_or table k row)
-  put-within = subst (λ (z : List ℕ). place < length z) (sym row-is) (omega (arith, q, place-in nodes table t k i v x m))
+    pub put-table : IsTable nodes new
+    put-table = subst (IsTable nodes) table-is (written-table nodes table t k i v x m)
 
-  pub put-table : IsTable nodes (slice_set table k new)
-  put-table = subst (IsTable nodes) table-is (written-table nodes table t k i v x m)
+    pub put-has : (family : List (List (List ℕ))) → x ≡ follower nodes family k i v → HasFollower nodes family new k i v
+    put-has family f = subst (λ (z : List (List ℕ)). HasFollower nodes family z k i v) table-is (written nodes table t k i v x m family f)
 
-  pub put-has : (family : List (List (List ℕ))) → x ≡ follower nodes family k i v → HasFollower nodes family (slice_set table k new) k i v
-  put-has family f = subst (λ (z : List (List ℕ)). HasFollower nodes family z k i v) table-is (written nodes table t k i v x m family f)
-
-  pub put-keeps : (family : List (List (List ℕ))) → x ≡ follower nodes family k i v → Keeps nodes family table (slice_set table k new)
-  put-keeps family f = subst (Keeps nodes family table) table-is (kept nodes table t k i v x m family f)
-
--- a row as it is read
-pub row-read : (nodes : List Node) (table : List (List ℕ)) → IsTable nodes table → (k : ℕ) → k < length nodes → (row : List ℕ) → row ≡ slice_index_or table k row → row ≡ row_at table k
-row-read nodes table t k d row e = e ∙ get_or_default table k row [] (subst (λ n. k < n) (sym t.each) d)
+    pub put-keeps : (family : List (List (List ℕ))) → x ≡ follower nodes family k i v → Keeps nodes family table new
+    put-keeps family f = subst (Keeps nodes family table) table-is (kept nodes table t k i v x m family f)
 
 -- step after step
 pub keeps-on : (nodes : List Node) (family : List (List (List ℕ))) (a b c : List (List ℕ)) → Keeps nodes family a b → Keeps nodes family b c → Keeps nodes family a c

@@ -8,9 +8,10 @@ ghost use Rattle.skeletons.specs.Families.{AreSkeletonSystems, FollowsFamily};
 ghost use Rattle.skel_decompose.specs.Followers.{AreStepsOf};
 
 use crate::filling::followers;
+use crate::lists::NumberLists;
 use crate::members::member_of;
 use crate::steps::steps_of;
-use multigraph::{Graph, Numbers};
+use multigraph::Graph;
 use rotations::Rotation;
 use spqr_tree::Tree;
 use std::alloc::{AllocError, Global};
@@ -42,7 +43,8 @@ pub fn decompose(
 }
 
 /// The face steps of the skeletons, of each node those of the rotation system that the family of a rotation system of the block has
-/// there: for each dart of the skeleton the next one of its face. No skeleton is made as a graph of its own.
+/// there: for each dart of the skeleton the next one of its face. No skeleton is made as a graph of its own, and no node has a list of
+/// its own in memory.
 ///
 /// Fails only if memory runs out.
 pub fn face_steps(
@@ -50,18 +52,20 @@ pub fn face_steps(
     g: &Graph,
     tree: &Tree,
     r: &Rotation,
-) -> Result<Vec<Numbers>, AllocError>
+) -> Result<NumberLists, AllocError>
     requires block { IsBlockTree g.now tree.now }
     requires system { IsRotationSystem g.now r.now }
     requires runs { IsContiguous tree.now r.now }
     ensures { IfOk result (λ steps. (family : List (List (List ℕ))) → AreSkeletonSystems tree.now family
-        → FollowsFamily tree.now family r.now → AreStepsOf tree.now family steps.items) }
+        → FollowsFamily tree.now family r.now → AreStepsOf tree.now family steps) }
 {
     g.keeps_limits();
     let table = followers(alloc, g, tree, r)?;
-    let mut steps = Vec::with_capacity(alloc, tree.node_count() as usize)?;
+    let mut steps = NumberLists::with_capacity(alloc, tree.node_count() as usize)?;
+    let mut own = Vec::new(alloc);
     for k in 0..tree.node_count() {
-        steps.push(steps_of(alloc, tree, &table, k)?)?;
+        steps_of(tree, &table, k, &mut own)?;
+        steps.push(&own)?;
     }
     Ok(steps)
 }

@@ -5,8 +5,9 @@ ghost use Rattle.skel_compose.specs.Homes.{HasHomes};
 ghost use Rattle.skel_decompose.specs.Followers.{IsInRuns, IsFamily, IsTable, Keeps, HasLasts, HasFollowers};
 ghost use Rattle.skel_decompose.specs.Neighbors.{AreNeighbors};
 
+use crate::lists::NumberLists;
 use crate::neighbors::neighbors_of;
-use crate::table::{Row, blank_table};
+use crate::table::blank_table;
 use crate::walking::walk;
 use multigraph::Graph;
 use pair_split::What;
@@ -21,9 +22,9 @@ fn fill_from(
     tree: &Tree,
     r: &Rotation,
     homes: &[(u32, u32)],
-    neighbors: &[Option<(u32, u32, u32)>],
+    neighbors: &[Option<(u32, u32)>],
     k: u32,
-    table: &mut [Row],
+    table: &mut NumberLists,
 )
     requires runs { IsInRuns g.now tree.now r.now }
     requires homes { HasHomes g.now tree.now (length tree.now) 0 homes.now }
@@ -51,11 +52,11 @@ pub(crate) fn followers(
     g: &Graph,
     tree: &Tree,
     r: &Rotation,
-) -> Result<Vec<Row>, AllocError>
+) -> Result<NumberLists, AllocError>
     requires runs { IsInRuns g.now tree.now r.now }
-    ensures table { IfOk result (λ table. IsTable tree.now table.items) }
+    ensures table { IfOk result (λ table. IsTable tree.now table) }
     ensures followers { IfOk result (λ table. (family : List (List (List ℕ)))
-        → IsFamily tree.now r.now family → HasFollowers tree.now family table.items) }
+        → IsFamily tree.now r.now family → HasFollowers tree.now family table) }
 {
     let homes = homes_of(alloc, g, tree)?;
     let neighbors = neighbors_of(alloc, tree)?;

@@ -9,9 +9,11 @@
 //
 // `decompose` gives the one family that a rotation system follows, and `face_steps` the face steps of its members without making them
 // or the skeletons; both fail only if memory runs out. All walks together take as many steps as the skeletons have items, twice, and
-// each step takes a look at where an edge is, or a binary search in a node. Nothing recurses.
+// each step takes a look at where an edge is, or a binary search in a node. Nothing recurses. The lists of all nodes are kept as one
+// (`NumberLists`).
 //
 // The lemmas, by their modules in proofs/:
+//   Flat      flat-view, flat-push, piece-of, flat-put: lists kept as one
 //   Searched  searched: a binary search by key; home-own: the item of an edge in its own node
 //   Nearby    near-found: the item of an edge of a neighbor; neighbors-put: neighbors noted
 //   Written   written, kept: what a table has after an entry is written; put-table, put-has, put-keeps
@@ -23,6 +25,7 @@
 
 mod decomposing;
 mod filling;
+mod lists;
 mod members;
 mod neighbors;
 mod searching;
@@ -31,3 +34,4 @@ mod table;
 mod walking;
 
 pub use decomposing::{decompose, face_steps};
+pub use lists::{NumberLists, renew};

@@ -9,7 +9,8 @@ ghost use Rattle.skeletons.specs.Families.{skeleton_graph, system_at, AreSkeleto
 ghost use Rattle.skel_compose.specs.Orders.{orders_below};
 ghost use Rattle.skel_decompose.specs.Followers.{IsTable, HasFollowers};
 
-use crate::table::{Row, item_place};
+use crate::lists::NumberLists;
+use crate::table::item_place;
 use multigraph::Graph;
 use rotations::{Lists, Rotation};
 use spqr_tree::Tree;
@@ -20,7 +21,7 @@ fn items_round(
     alloc: Global,
     tree: &Tree,
     graph: &Graph,
-    table: &[Row],
+    table: &NumberLists,
     k: u32,
     p: u32,
 ) -> Result<Vec<u32>, AllocError>
@@ -39,7 +40,7 @@ fn items_round(
     let mut i = graph.incident(p)[0];
     for _turn in 0..graph.degree(p) {
         items.push(i)?;
-        i = table[k as usize].at(item_place(tree, k, i, v));
+        i = table.number(k as usize, item_place(tree, k, i, v));
     }
     Ok(items)
 }
@@ -49,7 +50,7 @@ fn orders(
     alloc: Global,
     tree: &Tree,
     graph: &Graph,
-    table: &[Row],
+    table: &NumberLists,
     k: u32,
 ) -> Result<Lists, AllocError>
     requires block { (g : Multigraph) × IsBlockTree g tree.now × IsWithinLimits g }
@@ -74,7 +75,7 @@ fn orders(
 pub(crate) fn member_of(
     alloc: Global,
     tree: &Tree,
-    table: &[Row],
+    table: &NumberLists,
     k: u32,
 ) -> Result<Rotation, AllocError>
     requires block { (g : Multigraph) × IsBlockTree g tree.now × IsWithinLimits g }

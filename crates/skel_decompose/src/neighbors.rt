@@ -1,7 +1,7 @@
-// For each node a neighbor in the tree, with most items, and where the link to the node is among them. The item of a large node that has
-// an edge of a small neighbor is found so without a search.
+// For each node its neighbor in the tree on the way to edge 0, and where the link to the node is among the neighbor's items. The first item
+// of a node has edge 0 in its group, so every other link leads away from it.
 
-ghost use Rattle.std.specs.Prelude.{◌≡◌, ◌<◌, ◌⊎◌, ℕ, None, Some, length, slice_index_or, slice_set, IfOk};
+ghost use Rattle.std.specs.Prelude.{◌≡◌, ◌<◌, ℕ, None, length, slice_index_or, IfOk};
 ghost use Rattle.multigraph.specs.Graph.{Multigraph, IsWithinLimits};
 ghost use Rattle.skeletons.specs.Items.{IsBlockTree};
 ghost use Rattle.skel_decompose.specs.Neighbors.{AreNeighbors};
@@ -10,38 +10,23 @@ use pair_split::What;
 use spqr_tree::Tree;
 use std::alloc::{AllocError, Global};
 
-// Notes a neighbor of node x, unless one with as many items is known.
-fn note(neighbors: &mut [Option<(u32, u32, u32)>], x: u32, here: (u32, u32, u32))
-    requires { x < length neighbors.old }
-    ensures { (neighbors.new ≡ neighbors.old) ⊎ (neighbors.new ≡ slice_set neighbors.old x (Some here)) }
-{
-    let known = match neighbors[x as usize] {
-        Some((_, _, size)) => size,
-        None => 0,
-    };
-    if known < here.2 {
-        neighbors[x as usize] = Some(here);
-    }
-}
-
-// Notes node k for the nodes to which its links lead.
-fn note_neighbors(tree: &Tree, k: u32, neighbors: &mut [Option<(u32, u32, u32)>])
+// Notes node k for the nodes to which its links lead, but for the first item.
+fn note_neighbors(tree: &Tree, k: u32, neighbors: &mut [Option<(u32, u32)>])
     requires block { (g : Multigraph) × IsBlockTree g tree.now × IsWithinLimits g }
     requires node { k < length tree.now }
     requires neighbors { AreNeighbors tree.now neighbors.old }
     ensures { AreNeighbors tree.now neighbors.new }
 {
     let items = tree.items(k);
-    let size = items.len() as u32;
-    for i in 0..size {
+    for i in 1..items.len() as u32 {
         if let What::Link(x) = items[i as usize].what {
-            note(neighbors, x, (k, i, size));
+            neighbors[x as usize] = Some((k, i));
         }
     }
 }
 
 // A list of as many nodes of which no neighbor is known.
-fn unknown(alloc: Global, count: u32) -> Result<Vec<Option<(u32, u32, u32)>>, AllocError>
+fn unknown(alloc: Global, count: u32) -> Result<Vec<Option<(u32, u32)>>, AllocError>
     ensures each { IfOk result (λ neighbors. length neighbors.items ≡ count) }
     ensures none { IfOk result (λ neighbors. (x : ℕ) → slice_index_or neighbors.items x None ≡ None) }
 {
@@ -52,11 +37,11 @@ fn unknown(alloc: Global, count: u32) -> Result<Vec<Option<(u32, u32, u32)>>, Al
     Ok(neighbors)
 }
 
-// For each node a neighbor, its item that is the link to the node, and how many items it has.
+// For each node a neighbor, and its item that is the link to the node. The contract does not say for which nodes one is known.
 pub(crate) fn neighbors_of(
     alloc: Global,
     tree: &Tree,
-) -> Result<Vec<Option<(u32, u32, u32)>>, AllocError>
+) -> Result<Vec<Option<(u32, u32)>>, AllocError>
     requires block { (g : Multigraph) × IsBlockTree g tree.now × IsWithinLimits g }
     ensures { IfOk result (λ neighbors. AreNeighbors tree.now neighbors.items) }
 {

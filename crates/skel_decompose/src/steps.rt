@@ -10,13 +10,13 @@ ghost use Rattle.skeletons.specs.Items.{IsBlockTree};
 ghost use Rattle.skeletons.specs.Families.{skeleton_graph, system_at, AreSkeletonSystems};
 ghost use Rattle.skel_decompose.specs.Followers.{IsItemEnd, follower, IsTable, HasFollowers};
 
-use crate::table::{Row, item_place};
-use multigraph::Numbers;
+use crate::lists::NumberLists;
+use crate::table::item_place;
 use spqr_tree::Tree;
-use std::alloc::{AllocError, Global};
+use std::alloc::AllocError;
 
 // The dart by which a face of the skeleton of node k continues that arrives at v by item i.
-fn onward(tree: &Tree, table: &[Row], k: u32, i: u32, v: u32) -> u32
+fn onward(tree: &Tree, table: &NumberLists, k: u32, i: u32, v: u32) -> u32
     requires block { (g : Multigraph) × IsBlockTree g tree.now × IsWithinLimits g }
     requires end { IsItemEnd tree.now k i v }
     requires table { IsTable tree.now table.now }
@@ -26,32 +26,32 @@ fn onward(tree: &Tree, table: &[Row], k: u32, i: u32, v: u32) -> u32
         → HasFollowers tree.now family table.now → result ≡ dart_from (skeleton_graph tree.now k)
         (place_of (node_at tree.now k).vertices v) (follower tree.now family k i v) }
 {
-    let next = table[k as usize].at(item_place(tree, k, i, v));
+    let next = table.number(k as usize, item_place(tree, k, i, v));
     item_place(tree, k, next, v) as u32
 }
 
-// The face steps of the skeleton of node k.
+// Puts the face steps of the skeleton of node k into `steps`.
 pub(crate) fn steps_of(
-    alloc: Global,
     tree: &Tree,
-    table: &[Row],
+    table: &NumberLists,
     k: u32,
-) -> Result<Numbers, AllocError>
+    steps: &mut Vec<u32>,
+) -> Result<(), AllocError>
     requires block { (g : Multigraph) × IsBlockTree g tree.now × IsWithinLimits g }
     requires node { k < length tree.now }
     requires table { IsTable tree.now table.now }
     requires family { (family : List (List (List ℕ))) × AreSkeletonSystems tree.now family
         × HasFollowers tree.now family table.now }
-    ensures { IfOk result (λ steps. (family : List (List (List ℕ))) → AreSkeletonSystems tree.now family
+    ensures { IfOk result (λ _. (family : List (List (List ℕ))) → AreSkeletonSystems tree.now family
         → HasFollowers tree.now family table.now
-        → AreFaceSteps (skeleton_graph tree.now k) (system_at family k) steps) }
+        → AreFaceSteps (skeleton_graph tree.now k) (system_at family k) steps.new.items) }
 {
     let items = tree.items(k);
-    let mut steps = Vec::with_capacity(alloc, 2 * items.len())?;
+    steps.clear();
     for i in 0..items.len() as u32 {
         let item = &items[i as usize];
         steps.push(onward(tree, table, k, i, item.b))?;
         steps.push(onward(tree, table, k, i, item.a))?;
     }
-    Ok(Numbers::of(steps))
+    Ok(())
 }

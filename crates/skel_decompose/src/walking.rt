@@ -6,8 +6,9 @@ ghost use Rattle.skel_compose.specs.Homes.{IsHome, HasHomes};
 ghost use Rattle.skel_decompose.specs.Followers.{IsInRuns, IsFamily, IsTable, Keeps, HasLast};
 ghost use Rattle.skel_decompose.specs.Neighbors.{AreNeighbors};
 
-use crate::searching::item_of;
-use crate::table::{Row, item_place};
+use crate::lists::NumberLists;
+use crate::searching::{item_back, item_of};
+use crate::table::item_place;
 use pair_split::What;
 use rotations::Rotation;
 use spqr_tree::Tree;
@@ -17,8 +18,8 @@ pub(crate) fn walk(
     tree: &Tree,
     r: &Rotation,
     homes: &[(u32, u32)],
-    neighbors: &[Option<(u32, u32, u32)>],
-    table: &mut [Row],
+    neighbors: &[Option<(u32, u32)>],
+    table: &mut NumberLists,
     home: (u32, u32),
     v: u32,
     e: u32,
@@ -39,11 +40,11 @@ pub(crate) fn walk(
     let (mut k, mut i) = home;
     for _links in 0..tree.node_count() {
         let behind = item_of(tree, homes, neighbors, k, next);
-        table[k as usize].put(item_place(tree, k, i, v), behind);
+        table.set(k as usize, item_place(tree, k, i, v), behind);
         match tree.items(k)[behind as usize].what {
             What::Real(_) => return,
             What::Link(j) => {
-                i = item_of(tree, homes, neighbors, j, e);
+                i = item_back(tree, neighbors, k, j, e);
                 k = j;
             }
         }

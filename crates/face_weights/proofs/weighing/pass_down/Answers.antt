@@ -32,7 +32,7 @@ rests_of-requires-clause-few c =
     let n : k < length c.args.tree.now = node-at c.requires.block.0 c.args.tree.now c.requires.block.1 c.args.parents.now c.args.order.now c.requires.order c.loop-p.p c.loop-p-test.true in
     weights-few c.requires.block.0 c.args.tree.now c.requires.block.1 k n c.requires.block.2 c.args.parents.now c.args.below.now c.loop-p.above.items c.index.result.now (weight_in c.deref.result.now)
     (c.index.ensures ∙ get_or_default c.loop-p.above.items k c.index.result.now 0 (omega (arith, n, c.loop-p.invariant.0)))
-    (items-weights c.requires.block.0 c.args.tree.now c.requires.block.1 k n c.items-items.result.now c.items-items.ensures c.args.parents.now c.args.below.now c.args.below.now c.deref.result.now c.in_ok-weights.weights.items c.index.result.now refl c.deref.ensures.value c.in_ok-weights.ensures.each)
+    (items-weights c.requires.block.0 c.args.tree.now c.requires.block.1 k n c.items-items.result.now c.items-items.ensures c.args.parents.now c.args.below.now c.args.below.now c.deref.result.now c.weights_of.new.weights.items c.index.result.now refl c.deref.ensures.value c.in_ok-weights_of.ensures.each)
     c.loop-p.invariant.1
 
 pub hand_down-requires-clause-once : goal.hand_down-requires-clause-once
@@ -53,7 +53,7 @@ greatest_sum-sum-requires-clause-some c =
       arith,
       node-some c.requires.block.0 c.args.tree.now c.requires.block.1 k (node-at c.requires.block.0 c.args.tree.now c.requires.block.1 c.args.parents.now c.args.order.now c.requires.order c.loop-p.p c.loop-p-test.true),
       ap (λ (z : List ℕ). length z) c.deref-in-loop-p-2.ensures.value,
-      c.in_ok-weights.ensures.number,
+      c.in_ok-weights_of.ensures.number,
       ap (λ (z : List Item). length z) c.items-items.ensures,
     )
 
@@ -64,11 +64,11 @@ greatest_sum-sum-requires-clause-few c = λ i m.
     let few : sum_below (length (node_at c.args.tree.now k).items) (weight_in c.deref.result.now) ≤ 2 * max_edges =
     weights-few c.requires.block.0 c.args.tree.now c.requires.block.1 k n c.requires.block.2 c.args.parents.now c.args.below.now c.loop-p.above.items c.index.result.now (weight_in c.deref.result.now)
     (c.index.ensures ∙ get_or_default c.loop-p.above.items k c.index.result.now 0 (omega (arith, n, c.loop-p.invariant.0)))
-    (items-weights c.requires.block.0 c.args.tree.now c.requires.block.1 k n c.items-items.result.now c.items-items.ensures c.args.parents.now c.args.below.now c.args.below.now c.deref.result.now c.in_ok-weights.weights.items c.index.result.now refl c.deref.ensures.value c.in_ok-weights.ensures.each)
+    (items-weights c.requires.block.0 c.args.tree.now c.requires.block.1 k n c.items-items.result.now c.items-items.ensures c.args.parents.now c.args.below.now c.args.below.now c.deref.result.now c.weights_of.new.weights.items c.index.result.now refl c.deref.ensures.value c.in_ok-weights_of.ensures.each)
     c.loop-p.invariant.1 in
-    let l : i < length (node_at c.args.tree.now k).items = omega (arith, m, ap (λ (z : List ℕ). length z) c.deref-in-loop-p-2.ensures.value, c.in_ok-weights.ensures.number, ap (λ (z : List Item). length z) c.items-items.ensures) in
-    let total : weight_in c.deref.result.now i + weight_in c.in_ok-rests.rests.items i ≤ 2 * sum_below (length (node_at c.args.tree.now k).items) (weight_in c.deref.result.now) =
-    rest-total c.requires.block.0 c.args.tree.now c.requires.block.1 c.requires.faces.0 c.requires.faces.1.systems c.requires.faces.1.plane k n (weight_in c.deref.result.now) i (weight_in c.in_ok-rests.rests.items i) l (c.in_ok-rests.ensures.each c.requires.faces.0 c.requires.faces.1 i l) in
+    let l : i < length (node_at c.args.tree.now k).items = omega (arith, m, ap (λ (z : List ℕ). length z) c.deref-in-loop-p-2.ensures.value, c.in_ok-weights_of.ensures.number, ap (λ (z : List Item). length z) c.items-items.ensures) in
+    let total : weight_in c.deref.result.now i + weight_in c.rests_of.new.rests.items i ≤ 2 * sum_below (length (node_at c.args.tree.now k).items) (weight_in c.deref.result.now) =
+    rest-total c.requires.block.0 c.args.tree.now c.requires.block.1 c.requires.faces.0 c.requires.faces.1.systems c.requires.faces.1.plane k n (weight_in c.deref.result.now) i (weight_in c.rests_of.new.rests.items i) l (c.in_ok-rests_of.ensures.each c.requires.faces.0 c.requires.faces.1 i l) in
     omega (arith, total, few, ap (λ (z : List ℕ). weight_in z i) c.deref.ensures.value, ap (λ (z : List ℕ). weight_in z i) c.deref-in-loop-p-2.ensures.value, ap (λ (z : List ℕ). weight_in z i) c.deref-in-loop-p-3.ensures.value)
 
 pub loop-p-preserved : goal.loop-p-preserved
@@ -79,20 +79,20 @@ loop-p-preserved c =
     let above = c.loop-p.above.items in
     let next = c.hand_down.new.above in
     let weights = c.deref.result.now in
-    let rests = c.in_ok-rests.rests.items in
+    let rests = c.rests_of.new.rests.items in
     let sum = c.greatest_sum-sum.result in
     let n : k < length c.args.tree.now = node-at c.requires.block.0 c.args.tree.now c.requires.block.1 c.args.parents.now c.args.order.now c.requires.order c.loop-p.p c.loop-p-test.true in
     let value : c.index.result.now ≡ slice_index_or above k 0 = c.index.ensures ∙ get_or_default above k c.index.result.now 0 (omega (arith, n, c.loop-p.invariant.0)) in
     let made : (i : ℕ) → i < length (node_at nodes k).items → weight_in weights i ≡ weights_at nodes c.args.parents.now c.args.below.now c.index.result.now k i =
-    items-weights c.requires.block.0 c.args.tree.now c.requires.block.1 k n c.items-items.result.now c.items-items.ensures c.args.parents.now c.args.below.now c.args.below.now weights c.in_ok-weights.weights.items c.index.result.now refl c.deref.ensures.value c.in_ok-weights.ensures.each in
+    items-weights c.requires.block.0 c.args.tree.now c.requires.block.1 k n c.items-items.result.now c.items-items.ensures c.args.parents.now c.args.below.now c.args.below.now weights c.weights_of.new.weights.items c.index.result.now refl c.deref.ensures.value c.in_ok-weights_of.ensures.each in
     let weigh : (i : ℕ) → i < length (node_at nodes k).items → weight_in weights i ≡ weights_at nodes c.args.parents.now c.args.below.now (slice_index_or above k 0) k i =
     λ i a. made i a ∙ ap (λ z. weights_at nodes c.args.parents.now c.args.below.now z k i) value in
-    let rest : (family : List (List (List ℕ))) → KnowFaces nodes family c.args.faces.now → (i : ℕ) → i < length (node_at nodes k).items → IsRest nodes family k (weight_in weights) i (weight_in rests i) = c.in_ok-rests.ensures.each in
+    let rest : (family : List (List (List ℕ))) → KnowFaces nodes family c.args.faces.now → (i : ℕ) → i < length (node_at nodes k).items → IsRest nodes family k (weight_in weights) i (weight_in rests i) = c.in_ok-rests_of.ensures.each in
     let handed : AreHandedDown (node_at nodes k).items (parent_at c.args.parents.now k) rests (length (node_at nodes k).items) above next =
     subst (λ (z : List Item). AreHandedDown z (parent_at c.args.parents.now k) rests (length z) above next) c.items-items.ensures
     (subst (λ (z : List ℕ). AreHandedDown c.items-items.result.now (parent_at c.args.parents.now k) z (length c.items-items.result.now) above next) c.deref-in-loop-p.ensures.value
     (subst (λ (z : List ℕ). AreHandedDown c.items-items.result.now (parent_at c.args.parents.now k) c.deref-in-loop-p.result.now (length c.items-items.result.now) z next) c.deref_mut.ensures.value c.hand_down.ensures)) in
-    let number : length (node_at nodes k).items ≡ length c.deref-in-loop-p-2.result.now = omega (arith, ap (λ (z : List ℕ). length z) c.deref-in-loop-p-2.ensures.value, c.in_ok-weights.ensures.number, ap (λ (z : List Item). length z) c.items-items.ensures) in
+    let number : length (node_at nodes k).items ≡ length c.deref-in-loop-p-2.result.now = omega (arith, ap (λ (z : List ℕ). length z) c.deref-in-loop-p-2.ensures.value, c.in_ok-weights_of.ensures.number, ap (λ (z : List Item). length z) c.items-items.ensures) in
     let same : (i : ℕ) → weight_in c.deref-in-loop-p-2.result.now i + weight_in c.deref-in-loop-p-3.result.now i ≡ weight_in weights i + weight_in rests i =
     λ i. omega (arith, ap (λ (z : List ℕ). weight_in z i) c.deref.ensures.value, ap (λ (z : List ℕ). weight_in z i) c.deref-in-loop-p-2.ensures.value, ap (λ (z : List ℕ). weight_in z i) c.deref-in-loop-p-3.ensures.value) in
     let bounds : (i : ℕ) → i < length (node_at nodes k).items → weight_in weights i + weight_in rests i ≤ sum = λ i a. subst (λ z. z ≤ sum) (same i) (c.greatest_sum-sum.ensures.most i (subst (λ z. i < z) number a)) in

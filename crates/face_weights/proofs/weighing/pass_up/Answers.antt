@@ -2,11 +2,10 @@ use Rattle.std.proofs.Common.{◌≡◌, ◌<◌, ◌-◌, ℕ, List, [], length
 use Rattle.std.proofs.lemmas.List.{length-set, length-replicate}
 use Rattle.face_weights.specs.Sums.{weight_in}
 use Rattle.face_weights.specs.Passes.{weights_at, AreBelow}
-use Rattle.spqr_tree.specs.Keys.{parent_at}
 use Rattle.pair_split.specs.Tutte.{node_at}
 use Rattle.face_weights.proofs.Steps.{zeros}
 use Rattle.face_weights.proofs.InOrder.{node-at}
-use Rattle.face_weights.proofs.NodeCode.{weights-few, items-within, items-once, items-weights, items-noted}
+use Rattle.face_weights.proofs.NodeCode.{weights-few, items-within, items-weights}
 use Rattle.face_weights.proofs.UpSteps.{light-first, light-more, below-more}
 use Rattle.face_weights.proofs.weighing.pass_up.Goals as goal
 
@@ -28,20 +27,14 @@ weights_of-requires c =
           (items-within c.requires.block.0 c.args.tree.now c.requires.block.1 k (node-at c.requires.block.0 c.args.tree.now c.requires.block.1 c.args.parents.now c.args.order.now c.requires.order (c.loop-p.p - 1) l) c.items-items.result.now c.items-items.ensures i j m e);
     }
 
-pub rests_of-requires-clause-few : goal.rests_of-requires-clause-few
-rests_of-requires-clause-few c =
+pub rest_at_parent-requires-clause-few : goal.rest_at_parent-requires-clause-few
+rest_at_parent-requires-clause-few c =
     let l : c.loop-p.p - 1 < length c.args.order.now = omega (arith, c.loop-p-test.true, c.loop-p.invariant.1) in
     let k = slice_index_or c.args.order.now (c.loop-p.p - 1) 0 in
     let n : k < length c.args.tree.now = node-at c.requires.block.0 c.args.tree.now c.requires.block.1 c.args.parents.now c.args.order.now c.requires.order (c.loop-p.p - 1) l in
     weights-few c.requires.block.0 c.args.tree.now c.requires.block.1 k n c.requires.block.2 c.args.parents.now c.loop-p.below.items [] 0 (weight_in c.deref-in-loop-p.result.now) refl
-    (items-weights c.requires.block.0 c.args.tree.now c.requires.block.1 k n c.items-items.result.now c.items-items.ensures c.args.parents.now c.loop-p.below.items c.deref.result.now c.deref-in-loop-p.result.now c.in_ok-weights.weights.items 0 c.deref.ensures.value c.deref-in-loop-p.ensures.value c.in_ok-weights.ensures.each)
+    (items-weights c.requires.block.0 c.args.tree.now c.requires.block.1 k n c.items-items.result.now c.items-items.ensures c.args.parents.now c.loop-p.below.items c.deref.result.now c.deref-in-loop-p.result.now c.weights_of.new.weights.items 0 c.deref.ensures.value c.deref-in-loop-p.ensures.value c.in_ok-weights_of.ensures.each)
     c.loop-p.invariant.2
-
-pub rest_at_parent-requires-clause-once : goal.rest_at_parent-requires-clause-once
-rest_at_parent-requires-clause-once c =
-    let l : c.loop-p.p - 1 < length c.args.order.now = omega (arith, c.loop-p-test.true, c.loop-p.invariant.1) in
-    let k = slice_index_or c.args.order.now (c.loop-p.p - 1) 0 in
-    items-once c.requires.block.0 c.args.tree.now c.requires.block.1 k (node-at c.requires.block.0 c.args.tree.now c.requires.block.1 c.args.parents.now c.args.order.now c.requires.order (c.loop-p.p - 1) l) c.items-items.result.now c.items-items.ensures
 
 pub loop-p-preserved : goal.loop-p-preserved
 loop-p-preserved c =
@@ -50,11 +43,10 @@ loop-p-preserved c =
     let k = slice_index_or c.args.order.now p 0 in
     let n : k < length c.args.tree.now = node-at c.requires.block.0 c.args.tree.now c.requires.block.1 c.args.parents.now c.args.order.now c.requires.order p l in
     let weigh : (i : ℕ) → i < length (node_at c.args.tree.now k).items → weight_in c.deref-in-loop-p.result.now i ≡ weights_at c.args.tree.now c.args.parents.now c.loop-p.below.items 0 k i =
-    items-weights c.requires.block.0 c.args.tree.now c.requires.block.1 k n c.items-items.result.now c.items-items.ensures c.args.parents.now c.loop-p.below.items c.deref.result.now c.deref-in-loop-p.result.now c.in_ok-weights.weights.items 0 c.deref.ensures.value c.deref-in-loop-p.ensures.value c.in_ok-weights.ensures.each in
-    let noted = items-noted c.requires.block.0 c.args.tree.now c.requires.block.1 k n c.items-items.result.now c.items-items.ensures (parent_at c.args.parents.now k) c.rest_at_parent.result c.deref-in-loop-p-2.result.now c.in_ok-rests.rests.items c.deref-in-loop-p-2.ensures.value c.rest_at_parent.ensures in (
+    items-weights c.requires.block.0 c.args.tree.now c.requires.block.1 k n c.items-items.result.now c.items-items.ensures c.args.parents.now c.loop-p.below.items c.deref.result.now c.deref-in-loop-p.result.now c.weights_of.new.weights.items 0 c.deref.ensures.value c.deref-in-loop-p.ensures.value c.in_ok-weights_of.ensures.each in (
       length-set c.loop-p.below.items k c.rest_at_parent.result ∙ c.loop-p.invariant.0,
       omega (arith, c.loop-p.invariant.1),
-      let family = c.requires.faces.0 in let know = c.requires.faces.1 in light-more c.requires.block.0 c.args.tree.now c.requires.block.1 family know.systems know.plane c.args.parents.now c.args.order.now c.requires.order p l c.loop-p.below.items c.loop-p.invariant.0 (weight_in c.deref-in-loop-p.result.now) (weight_in c.in_ok-rests.rests.items) c.rest_at_parent.result weigh (c.in_ok-rests.ensures.each family know) noted c.loop-p.invariant.2,
-      λ family know. below-more c.requires.block.0 c.args.tree.now c.requires.block.1 family know.systems know.plane c.args.parents.now c.args.order.now c.requires.order p l c.loop-p.below.items c.loop-p.invariant.0 (weight_in c.deref-in-loop-p.result.now) (weight_in c.in_ok-rests.rests.items) c.rest_at_parent.result weigh (c.in_ok-rests.ensures.each family know) noted
+      let family = c.requires.faces.0 in let know = c.requires.faces.1 in light-more c.requires.block.0 c.args.tree.now c.requires.block.1 family know.systems know.plane c.args.parents.now c.args.order.now c.requires.order p l c.loop-p.below.items c.loop-p.invariant.0 (weight_in c.deref-in-loop-p.result.now) c.rest_at_parent.result weigh (c.rest_at_parent.ensures family know) c.loop-p.invariant.2,
+      λ family know. below-more c.requires.block.0 c.args.tree.now c.requires.block.1 family know.systems know.plane c.args.parents.now c.args.order.now c.requires.order p l c.loop-p.below.items c.loop-p.invariant.0 (weight_in c.deref-in-loop-p.result.now) c.rest_at_parent.result weigh (c.rest_at_parent.ensures family know)
           (subst (λ z. AreBelow c.args.tree.now family c.args.parents.now c.args.order.now z c.loop-p.below.items) (omega (arith, c.loop-p-test.true)) (c.loop-p.invariant.3 family know)),
     )

@@ -14,8 +14,8 @@ pub weigh-requires-clause-faces : goal.weigh-requires-clause-faces
 weigh-requires-clause-faces c =
     let s = c.args.p.now in
     let w = present-family s.graph s.tree s.rotation c.belongs.ensures.block c.belongs.ensures.plane in
-    subst (λ (z : List Node). (family : List (List (List ℕ))) × KnowFaces z family c.deref.result.now) (sym c.tree.ensures.value)
-    (w.0, subst (KnowFaces s.tree w.0) (sym c.deref.ensures.value) (c.in_ok-faces.ensures w.0 w.1 w.2))
+    subst (λ (z : List Node). (family : List (List (List ℕ))) × KnowFaces z family c.in_ok-faces.faces) (sym c.tree.ensures.value)
+    (w.0, c.in_ok-faces.ensures w.0 w.1 w.2)
 
 -- the present rotation system has a longest face
 pub returns-then-branch : goal.returns-then-branch
@@ -24,9 +24,9 @@ returns-then-branch c =
     let f = present-family s.graph s.tree s.rotation c.belongs.ensures.block c.belongs.ensures.plane in
     let w = c.in_ok-weights.weights in
     let len = c.most-length.result in
-    let know : KnowFaces s.tree f.0 c.in_ok-faces.faces.items = c.in_ok-faces.ensures f.0 f.1 f.2 in
+    let know : KnowFaces s.tree f.0 c.in_ok-faces.faces = c.in_ok-faces.ensures f.0 f.1 f.2 in
     let weights : AreWeights s.tree f.0 w =
-    subst (λ (z : List Node). KnowFaces z f.0 c.deref.result.now → AreWeights z f.0 w) c.tree.ensures.value (c.in_ok-weights.ensures f.0) (subst (KnowFaces s.tree f.0) (sym c.deref.ensures.value) know) in
+    subst (λ (z : List Node). KnowFaces z f.0 c.in_ok-faces.faces → AreWeights z f.0 w) c.tree.ensures.value (c.in_ok-weights.ensures f.0) know in
     let none : NoneLonger s.graph len =
     subst (NoneLonger s.graph) (sym c.most-length.ensures) (table-bounds s.graph s.tree f.0 (weight_of s.tree w) w.most c.belongs.ensures.block f.1 know.plane weights.edges weights.table) in
     let has : HasFace s.graph s.rotation len =
@@ -37,7 +37,7 @@ pub moves_to_longest-requires-clause-known : goal.moves_to_longest-requires-clau
 moves_to_longest-requires-clause-known c =
     let s = c.args.p.now in
     let f = present-family s.graph s.tree s.rotation c.belongs.ensures.block c.belongs.ensures.plane in
-    let know : KnowFaces s.tree f.0 c.in_ok-faces.faces.items = c.in_ok-faces.ensures f.0 f.1 f.2 in
+    let know : KnowFaces s.tree f.0 c.in_ok-faces.faces = c.in_ok-faces.ensures f.0 f.1 f.2 in
     let weights : AreWeights s.tree f.0 c.in_ok-weights.weights =
-    subst (λ (z : List Node). KnowFaces z f.0 c.deref.result.now → AreWeights z f.0 c.in_ok-weights.weights) c.tree.ensures.value (c.in_ok-weights.ensures f.0) (subst (KnowFaces s.tree f.0) (sym c.deref.ensures.value) know) in
-    (f.0, subst (KnowFaces s.tree f.0) (sym c.deref-2.ensures.value) know, f.2, weights)
+    subst (λ (z : List Node). KnowFaces z f.0 c.in_ok-faces.faces → AreWeights z f.0 c.in_ok-weights.weights) c.tree.ensures.value (c.in_ok-weights.ensures f.0) know in
+    (f.0, know, f.2, weights)

@@ -22,19 +22,19 @@ pub numbers_of-requires-clause-steps : goal.numbers_of-requires-clause-steps
 numbers_of-requires-clause-steps c =
     let s = c.args.p.now in
     let w = present-family s.graph s.tree s.rotation c.belongs.ensures.block c.belongs.ensures.plane in
-    let steps : AreStepsOf s.tree w.0 c.in_ok-steps.steps.items =
-    subst (λ (z : List Node). AreSkeletonSystems z w.0 → FollowsFamily z w.0 c.rotation.result.now → AreStepsOf z w.0 c.in_ok-steps.steps.items) c.tree.ensures.value (c.in_ok-steps.ensures w.0) w.1
+    let steps : AreStepsOf s.tree w.0 c.in_ok-steps.steps =
+    subst (λ (z : List Node). AreSkeletonSystems z w.0 → FollowsFamily z w.0 c.rotation.result.now → AreStepsOf z w.0 c.in_ok-steps.steps) c.tree.ensures.value (c.in_ok-steps.ensures w.0) w.1
     (subst (FollowsFamily s.tree w.0) (sym c.rotation.ensures.value) w.2) in
-    subst (λ (z : List Node). (family : List (List (List ℕ))) × AreSkeletonSystems z family × AreStepsOf z family c.deref.result.now) (sym c.tree-2.ensures.value)
-    (w.0, w.1, subst (AreStepsOf s.tree w.0) (sym c.deref.ensures.value) steps)
+    subst (λ (z : List Node). (family : List (List (List ℕ))) × AreSkeletonSystems z family × AreStepsOf z family c.in_ok-steps.steps) (sym c.tree-2.ensures.value)
+    (w.0, w.1, steps)
 
 pub returns : goal.returns
 returns c = IfOk-weaker c.numbers_of.result _ _ (λ faces h family systems follows.
     let s = c.args.p.now in
     let p = c.belongs.ensures.plane in
-    let steps : AreStepsOf s.tree family c.in_ok-steps.steps.items =
-    subst (λ (z : List Node). AreSkeletonSystems z family → FollowsFamily z family c.rotation.result.now → AreStepsOf z family c.in_ok-steps.steps.items) c.tree.ensures.value (c.in_ok-steps.ensures family) systems
+    let steps : AreStepsOf s.tree family c.in_ok-steps.steps =
+    subst (λ (z : List Node). AreSkeletonSystems z family → FollowsFamily z family c.rotation.result.now → AreStepsOf z family c.in_ok-steps.steps) c.tree.ensures.value (c.in_ok-steps.ensures family) systems
     (subst (FollowsFamily s.tree family) (sym c.rotation.ensures.value) follows) in
-    subst (λ (z : List Node). AreSkeletonSystems z family → ((k : ℕ) → k < length z → IsPlane (skeleton_graph z k) (system_at family k)) → AreStepsOf z family c.deref.result.now → KnowFaces z family faces.items) c.tree-2.ensures.value (h family) systems
+    subst (λ (z : List Node). AreSkeletonSystems z family → ((k : ℕ) → k < length z → IsPlane (skeleton_graph z k) (system_at family k)) → AreStepsOf z family c.in_ok-steps.steps → KnowFaces z family faces) c.tree-2.ensures.value (h family) systems
     (follows-plane_back s.graph s.tree c.belongs.ensures.block family systems s.rotation p.system follows p.plane)
-    (subst (AreStepsOf s.tree family) (sym c.deref.ensures.value) steps)) c.numbers_of.ensures
+    steps) c.numbers_of.ensures

@@ -15,7 +15,7 @@ pub face_sums-requires-clause-faces : goal.face_sums-requires-clause-faces
 face_sums-requires-clause-faces c =
     let g = c.args.g.now in
     let r = c.args.r.now in
-    let numbers : NumberFaces g r c.in_ok-numbers.numbers.items = c.in_ok-numbers.ensures g r c.keeps_limits.ensures.graph c.requires (subst (AreFaceSteps g r) (sym c.deref.ensures.value) c.in_ok-steps.ensures) in
+    let numbers : NumberFaces g r c.number_faces.new.numbers.items = c.in_ok-number_faces.ensures g r c.keeps_limits.ensures.graph c.requires (subst (AreFaceSteps g r) (sym c.deref.ensures.value) c.in_ok-steps.ensures) in
     let ones : c.in_ok-ones.ones.items ≡ replicate c.edge_count.result 1 = c.in_ok-ones.ensures.items_if_clones_equal (λ y h. h) in (
       g,
       r,
@@ -34,20 +34,20 @@ pub returns-clause-found : goal.returns-clause-found
 returns-clause-found c =
     let g = c.args.g.now in
     let r = c.args.r.now in
-    let numbers : NumberFaces g r c.in_ok-numbers.numbers.items = c.in_ok-numbers.ensures g r c.keeps_limits.ensures.graph c.requires (subst (AreFaceSteps g r) (sym c.deref.ensures.value) c.in_ok-steps.ensures) in
+    let numbers : NumberFaces g r c.number_faces.new.numbers.items = c.in_ok-number_faces.ensures g r c.keeps_limits.ensures.graph c.requires (subst (AreFaceSteps g r) (sym c.deref.ensures.value) c.in_ok-steps.ensures) in
     let ones : c.in_ok-ones.ones.items ≡ replicate (edge_count g) 1 = subst (λ n. c.in_ok-ones.ones.items ≡ replicate n 1) c.edge_count.ensures.value (c.in_ok-ones.ensures.items_if_clones_equal (λ y h. h)) in
     let sums : AreFaceSums g r (replicate (edge_count g) 1) c.deref-4.result.now =
     subst (AreFaceSums g r (replicate (edge_count g) 1)) (sym c.deref-4.ensures.value)
-    (subst (λ (z : List ℕ). AreFaceSums g r z c.in_ok-lengths.lengths.items) (c.deref-3.ensures.value ∙ ones) (c.in_ok-lengths.ensures g r (subst (NumberFaces g r) (sym c.deref-2.ensures.value) numbers))) in
+    (subst (λ (z : List ℕ). AreFaceSums g r z c.face_sums.new.sums.items) (c.deref-3.ensures.value ∙ ones) (c.in_ok-face_sums.ensures g r (subst (NumberFaces g r) (sym c.deref-2.ensures.value) numbers))) in
     λ t. has-found g r c.keeps_limits.ensures.graph c.requires c.deref-4.result.now sums c.args.len (sym c.contains.ensures.value ∙ t)
 
 pub returns-clause-none : goal.returns-clause-none
 returns-clause-none c =
     let g = c.args.g.now in
     let r = c.args.r.now in
-    let numbers : NumberFaces g r c.in_ok-numbers.numbers.items = c.in_ok-numbers.ensures g r c.keeps_limits.ensures.graph c.requires (subst (AreFaceSteps g r) (sym c.deref.ensures.value) c.in_ok-steps.ensures) in
+    let numbers : NumberFaces g r c.number_faces.new.numbers.items = c.in_ok-number_faces.ensures g r c.keeps_limits.ensures.graph c.requires (subst (AreFaceSteps g r) (sym c.deref.ensures.value) c.in_ok-steps.ensures) in
     let ones : c.in_ok-ones.ones.items ≡ replicate (edge_count g) 1 = subst (λ n. c.in_ok-ones.ones.items ≡ replicate n 1) c.edge_count.ensures.value (c.in_ok-ones.ensures.items_if_clones_equal (λ y h. h)) in
     let sums : AreFaceSums g r (replicate (edge_count g) 1) c.deref-4.result.now =
     subst (AreFaceSums g r (replicate (edge_count g) 1)) (sym c.deref-4.ensures.value)
-    (subst (λ (z : List ℕ). AreFaceSums g r z c.in_ok-lengths.lengths.items) (c.deref-3.ensures.value ∙ ones) (c.in_ok-lengths.ensures g r (subst (NumberFaces g r) (sym c.deref-2.ensures.value) numbers))) in
+    (subst (λ (z : List ℕ). AreFaceSums g r z c.face_sums.new.sums.items) (c.deref-3.ensures.value ∙ ones) (c.in_ok-face_sums.ensures g r (subst (NumberFaces g r) (sym c.deref-2.ensures.value) numbers))) in
     λ t. has-none g r c.keeps_limits.ensures.graph c.requires c.deref-4.result.now sums c.args.len (sym c.contains.ensures.value ∙ t)

@@ -1,8 +1,7 @@
-use Rattle.std.proofs.Common.{ℕ, List, sym, subst, arith}
+use Rattle.std.proofs.Common.{ℕ, List, subst, arith}
 use Rattle.skeletons.specs.Families.{AreSkeletonSystems, FollowsFamily}
 use Rattle.skel_decompose.proofs.Ahead.{some-family}
 use Rattle.skel_decompose.proofs.Gathered.{members-more, members-all}
-use Rattle.skel_decompose.specs.Followers.{HasFollowers}
 use Rattle.skel_decompose.proofs.decomposing.decompose.Goals as goal
 
 pub followers-requires : goal.followers-requires
@@ -14,12 +13,12 @@ member_of-requires-clause-block c = (c.args.g.now, c.requires.block, c.keeps_lim
 pub member_of-requires-clause-family : goal.member_of-requires-clause-family
 member_of-requires-clause-family c =
     let w = some-family c.args.g.now c.args.tree.now c.args.r.now (record { block = c.requires.block; limits = c.keeps_limits.ensures.limits; system = c.requires.system; runs = c.requires.runs }) in
-    (w.0, w.1.systems, subst (HasFollowers c.args.tree.now w.0) (sym c.deref.ensures.value) (c.in_ok-table.ensures.followers w.0 w.1))
+    (w.0, w.1.systems, c.in_ok-table.ensures.followers w.0 w.1)
 
 -- one member more
 pub loop-k-preserved : goal.loop-k-preserved
 loop-k-preserved c = λ family m. members-more family c.loop-k.k c.in_ok-member_of.field-0 c.loop-k.members.items c.push.new.self.items (c.loop-k.invariant family m)
-    (c.in_ok-member_of.ensures family m.systems (subst (HasFollowers c.args.tree.now family) (sym c.deref.ensures.value) (c.in_ok-table.ensures.followers family m))) c.in_ok-push.ensures.items
+    (c.in_ok-member_of.ensures family m.systems (c.in_ok-table.ensures.followers family m)) c.in_ok-push.ensures.items
 
 -- the members are the family that is followed
 pub returns-clause-systems : goal.returns-clause-systems

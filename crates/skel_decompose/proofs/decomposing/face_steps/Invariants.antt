@@ -5,4 +5,4 @@ use Rattle.skel_decompose.specs.Followers.{IsFamily, row_at}
 use Rattle.skel_decompose.proofs.decomposing.face_steps.Given as goal
 
 abbrev pub invariant-loop-k : goal.invariant-loop-k
-invariant-loop-k l = (length l.steps.items ≡ l.k) × ((family : List (List (List ℕ))) → IsFamily l.tree l.r family → (j : ℕ) → j < l.k → AreFaceSteps (skeleton_graph l.tree j) (system_at family j) (row_at l.steps.items j))
+invariant-loop-k l = (length l.steps ≡ l.k) × ((family : List (List (List ℕ))) → IsFamily l.tree l.r family → (j : ℕ) → j < l.k → AreFaceSteps (skeleton_graph l.tree j) (system_at family j) (row_at l.steps j))

@@ -5,5 +5,5 @@ use Rattle.skel_decompose.proofs.filling.followers.Goals as goal
 
 -- all edges have been walked from
 pub returns-clause-followers : goal.returns-clause-followers
-returns-clause-followers c = λ family m. all-followers c.args.g.now c.args.tree.now c.args.r.now c.requires.runs family c.loop-k.table.items
-    (subst (λ n. HasLasts c.args.g.now c.args.tree.now c.args.r.now family n 0 c.loop-k.table.items) (omega (arith, c.loop-k-test.false, c.node_count-k-end.ensures, c.loop-k.auto)) (c.loop-k.invariant.1 family m))
+returns-clause-followers c = λ family m. all-followers c.args.g.now c.args.tree.now c.args.r.now c.requires.runs family c.loop-k.table
+    (subst (λ n. HasLasts c.args.g.now c.args.tree.now c.args.r.now family n 0 c.loop-k.table) (omega (arith, c.loop-k-test.false, c.node_count-k-end.ensures, c.loop-k.auto)) (c.loop-k.invariant.1 family m))

@@ -1,4 +1,4 @@
-use Rattle.std.proofs.Common.{◌≡◌, ◌<◌, ◌*◌, List, length, sym, ap, subst, arith}
+use Rattle.std.proofs.Common.{◌≡◌, ◌<◌, ◌*◌, List, length, ap, subst, arith}
 use Rattle.multigraph.specs.Graph.{edge_count}
 use Rattle.faces.specs.Steps.{AreStepsBelow}
 use Rattle.faces.proofs.FaceSteps.{steps-more}
@@ -33,5 +33,4 @@ returns c = λ family f h.
     let nodes = c.args.tree.now in
     let k = c.args.k in
     let all : 2 * c.loop-i.i ≡ 2 * edge_count (skeleton_graph nodes k) = omega (arith, c.loop-i-test.false, c.loop-i.auto.i-end, ap length c.items-items.ensures, graph-edges c.requires.block.0 nodes c.requires.block.1 k c.requires.node) in
-    subst (AreStepsBelow (skeleton_graph nodes k) (system_at family k) (2 * edge_count (skeleton_graph nodes k))) (sym c.of.ensures)
-    (subst (λ n. AreStepsBelow (skeleton_graph nodes k) (system_at family k) n c.loop-i.steps.items) all (c.loop-i.invariant family f h))
+    subst (λ n. AreStepsBelow (skeleton_graph nodes k) (system_at family k) n c.loop-i.steps.items) all (c.loop-i.invariant family f h)

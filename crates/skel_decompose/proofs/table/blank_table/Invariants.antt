@@ -4,4 +4,4 @@ use Rattle.skel_decompose.specs.Followers.{row_at}
 use Rattle.skel_decompose.proofs.table.blank_table.Given as goal
 
 abbrev pub invariant-loop-k : goal.invariant-loop-k
-invariant-loop-k l = (length l.table.items ≡ l.k) × ((k : ℕ) → k < l.k → length (row_at l.table.items k) ≡ 2 * length (node_at l.tree k).items)
+invariant-loop-k l = (length l.table ≡ l.k) × ((k : ℕ) → k < l.k → length (row_at l.table k) ≡ 2 * length (node_at l.tree k).items)
