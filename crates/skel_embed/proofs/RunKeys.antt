@@ -184,7 +184,7 @@ module _ (g : Multigraph) (nodes : List Node) (b : IsBlockTree g nodes) (r q : L
   abbrev v : ℕ
   v = least_vertex nodes k
 
-  has : has_vertex nodes k v ≡ true
+  abbrev has : has_vertex nodes k v ≡ true
   has = least-has g nodes b k l
 
   two : (t : List (List ℕ)) (pt : IsPlaneSystem g t) → 1 < length (runs g nodes b t pt k l v has).0
