@@ -16,7 +16,7 @@ invariant_of-self-2 c =
     let leads = subst (λ (v : BoardView). LeadsTo v.views v.lists c.requires.0 step) (sym c.self.view_is) c.requires.1 in
     let set = c.set.ensures ∙ ap (λ (ps : List (ℕ × Option (List ℕ))). lists_set ps s.lists) c.in_ok-lists.ensures in
     let other = c.carry_forth.new.blocks.items in
-    on-right s.blocks.items other s.lists c.set.new.self s.log c.note.new.self step c.requires.0 c.args.self.now c.self.invariant c.self.view_is c.carry_forth.ensures.carried
+    on-right s.blocks.items other s.lists c.set.new.self s.log c.note.new.self step c.requires.0 c.args.self.now c.self.invariant.board c.self.view_is c.carry_forth.ensures.carried
     (noted-added s.log c.reserve.new.self c.note.new.self step c.reserve.ensures.steps c.reserve.ensures.cursor c.note.ensures) leads
     (step-kept s.blocks.items other s.lists c.set.new.self step c.requires.0 leads c.carry_forth.ensures.entries set)
 
@@ -27,6 +27,6 @@ returns-clause-done c = λ kept given.
     let leads = subst (λ (v : BoardView). LeadsTo v.views v.lists kept step) (sym c.self.view_is) given in
     let set = c.set.ensures ∙ ap (λ (ps : List (ℕ × Option (List ℕ))). lists_set ps s.lists) c.in_ok-lists.ensures in
     let other = c.carry_forth.new.blocks.items in
-    on-goes s.blocks.items other s.lists c.set.new.self s.log c.note.new.self step kept c.args.self.now c.self.invariant c.self.view_is c.carry_forth.ensures.carried
+    on-goes s.blocks.items other s.lists c.set.new.self s.log c.note.new.self step kept c.args.self.now c.self.invariant.board c.self.view_is c.carry_forth.ensures.carried
     (noted-added s.log c.reserve.new.self c.note.new.self step c.reserve.ensures.steps c.reserve.ensures.cursor c.note.ensures) leads
     (step-kept s.blocks.items other s.lists c.set.new.self step kept leads c.carry_forth.ensures.entries set)

@@ -6,7 +6,7 @@ use Rattle.spqr_session.specs.State.{Embedding}
 use Rattle.spqr_session.specs.Moved.{all_moved, LeadToMirror}
 use Rattle.spqr_session.specs.History.{entry_mirrored, lists_set}
 use Rattle.spqr_session.specs.Embedded.{BlockView, view_at, view_entry, IsInPlane}
-use Rattle.spqr_session.specs.Board.{BoardView, StandsAt, CanMake, LeadsTo, kept_changed}
+use Rattle.spqr_session.specs.Board.{BoardView, Clears, StandsAt, CanMake, LeadsTo, kept_changed}
 use Rattle.spqr_session.proofs.BlockTrees.{view-at}
 use Rattle.spqr_session.proofs.Boards.{noted-added}
 use Rattle.spqr_session.proofs.BoardSteps.{put-right, put-changed}
@@ -36,11 +36,13 @@ invariant_of-self-2 c =
     let new : Embedding = record { rotation = mirror_image e.rotation; locks = e.locks } in
     let is = c.mirror.ensures ∙ ap (λ (o : Option Embedding). record { tree = w.tree; certificate = w.certificate; entry = entry_mirrored o }) (ap view_entry found ∙ at.entry) in
     let step = c.in_ok-step.step in
-    let made = subst (λ (l : List BlockView). (x : Embedding) → StandsAt l b x → LeadsTo l s.lists (kept_changed l s.lists b (record { rotation = all_moved (view_at l b).tree.nodes moves x.rotation; locks = x.locks })) step) c.deref.ensures.value c.in_ok-step.ensures.leads in
-    let leads = subst (λ (r : List (List ℕ)). LeadsTo views s.lists (kept_changed views s.lists b (record { rotation = r; locks = e.locks })) step) lead.mirror (made e at) in
+    let cuts = c.in_ok-cuts.cuts in
+    let clears = subst (λ (v : BoardView). Clears (view_at v.views b).tree.part.vertices v.lists cuts) (sym c.self.view_is) (c.in_ok-cuts.ensures {u = tt}) in
+    let made = subst (λ (l : List BlockView). (x : Embedding) (ls : List (Option (List ℕ))) → StandsAt l b x → Clears (view_at l b).tree.part.vertices ls cuts → LeadsTo l ls (kept_changed l ls b (record { rotation = all_moved (view_at l b).tree.nodes moves x.rotation; locks = x.locks })) step) c.deref.ensures.value c.in_ok-step.ensures.leads in
+    let leads = subst (λ (r : List (List ℕ)). LeadsTo views s.lists (kept_changed views s.lists b (record { rotation = r; locks = e.locks })) step) lead.mirror (made e s.lists at clears) in
     let set = c.set.ensures ∙ ap (λ (ps : List (ℕ × Option (List ℕ))). lists_set ps s.lists) c.in_ok-lists.ensures in
     let added = noted-added s.log c.reserve.new.self c.note.new.self step c.reserve.ensures.steps c.reserve.ensures.cursor c.note.ensures in
-    put-right views s.lists c.set.new.self b new c.mirror.new.self w step at.within c.index_mut.ensures.value is s.log c.note.new.self c.args.self.now c.self.invariant c.self.view_is added leads set
+    put-right views s.lists c.set.new.self b new c.mirror.new.self w step at.within c.index_mut.ensures.value is s.log c.note.new.self c.args.self.now c.self.invariant.board c.self.view_is added leads set
 
 pub returns-clause-done : goal.returns-clause-done
 returns-clause-done c =
@@ -57,12 +59,14 @@ returns-clause-done c =
     let new : Embedding = record { rotation = mirror_image e.rotation; locks = e.locks } in
     let is = c.mirror.ensures ∙ ap (λ (o : Option Embedding). record { tree = w.tree; certificate = w.certificate; entry = entry_mirrored o }) (ap view_entry found ∙ at.entry) in
     let step = c.in_ok-step.step in
-    let made = subst (λ (l : List BlockView). (x : Embedding) → StandsAt l b x → LeadsTo l s.lists (kept_changed l s.lists b (record { rotation = all_moved (view_at l b).tree.nodes moves x.rotation; locks = x.locks })) step) c.deref.ensures.value c.in_ok-step.ensures.leads in
-    let leads = subst (λ (r : List (List ℕ)). LeadsTo views s.lists (kept_changed views s.lists b (record { rotation = r; locks = e.locks })) step) lead.mirror (made e at) in
+    let cuts = c.in_ok-cuts.cuts in
+    let clears = subst (λ (v : BoardView). Clears (view_at v.views b).tree.part.vertices v.lists cuts) (sym c.self.view_is) (c.in_ok-cuts.ensures {u = tt}) in
+    let made = subst (λ (l : List BlockView). (x : Embedding) (ls : List (Option (List ℕ))) → StandsAt l b x → Clears (view_at l b).tree.part.vertices ls cuts → LeadsTo l ls (kept_changed l ls b (record { rotation = all_moved (view_at l b).tree.nodes moves x.rotation; locks = x.locks })) step) c.deref.ensures.value c.in_ok-step.ensures.leads in
+    let leads = subst (λ (r : List (List ℕ)). LeadsTo views s.lists (kept_changed views s.lists b (record { rotation = r; locks = e.locks })) step) lead.mirror (made e s.lists at clears) in
     let set = c.set.ensures ∙ ap (λ (ps : List (ℕ × Option (List ℕ))). lists_set ps s.lists) c.in_ok-lists.ensures in
     let added = noted-added s.log c.reserve.new.self c.note.new.self step c.reserve.ensures.steps c.reserve.ensures.cursor c.note.ensures in
     let right = subst (λ (l : List BlockView). IsInPlane (view_at l b)) c.deref.ensures.value c.in_ok-step.ensures.plane e at.entry in
     let g = (view_at views b).tree.part.graph in
-    let changed = put-changed views s.lists c.set.new.self b new c.mirror.new.self w step at.within c.index_mut.ensures.value is s.log c.note.new.self c.args.self.now c.self.invariant c.self.view_is added leads set
+    let changed = put-changed views s.lists c.set.new.self b new c.mirror.new.self w step at.within c.index_mut.ensures.value is s.log c.note.new.self c.args.self.now c.self.invariant.board c.self.view_is added leads set
     (record { system = mirror-system g e.rotation right.1.system; plane = mirror-image-plane g e.rotation right.0.graph right.1.system right.1.plane }) in
     record { old = e; stands = c.requires.1; changed = changed }

@@ -13,4 +13,4 @@ invariant_of-self c =
     let passed : WentOn s.log step c.redo.follows.lender-at-none = rw c.in-Ok.is at c.redo.follows.holds-at-none in
     let set = c.set.ensures ∙ ap (λ (ps : List (ℕ × Option (List ℕ))). lists_set ps s.lists) (c.in_ok-lists.ensures step (passed.passed)) in
     let same : kept_on c.carry_forth.new.blocks.items c.set.new.self ≡ redone (map view_tree s.blocks.items) step (kept_on s.blocks.items s.lists) = λ i. record { entries = c.carry_forth.ensures.entries i; lists = set i } in
-    board-on s.blocks.items c.carry_forth.new.blocks.items s.lists c.set.new.self s.log c.redo.follows.lender-at-none step c.carry_forth.ensures.carried c.self.invariant passed same
+    board-on s.blocks.items c.carry_forth.new.blocks.items s.lists c.set.new.self s.log c.redo.follows.lender-at-none step c.carry_forth.ensures.carried c.self.invariant.board passed same

@@ -13,4 +13,4 @@ invariant_of-self c =
     let passed : WentBack s.log step c.undo.follows.lender-at-none = rw c.in-Ok.is at c.undo.follows.holds-at-none in
     let set = c.set.ensures ∙ ap (λ (ps : List (ℕ × Option (List ℕ))). lists_set ps s.lists) (c.in_ok-lists.ensures c.undo.follows.lender-at-none.cursor step passed.cursor passed.passed) in
     let same : kept_on c.carry_back.new.blocks.items c.set.new.self ≡ undone (map view_tree s.blocks.items) step (kept_on s.blocks.items s.lists) = λ i. record { entries = c.carry_back.ensures.entries i; lists = set i } in
-    board-back s.blocks.items c.carry_back.new.blocks.items s.lists c.set.new.self s.log c.undo.follows.lender-at-none step c.carry_back.ensures.carried c.self.invariant passed same
+    board-back s.blocks.items c.carry_back.new.blocks.items s.lists c.set.new.self s.log c.undo.follows.lender-at-none step c.carry_back.ensures.carried c.self.invariant.board passed same
