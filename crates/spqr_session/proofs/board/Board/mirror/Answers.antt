@@ -1,4 +1,4 @@
-use Rattle.std.proofs.Common.{List, ℕ, Option, sym, ap, ◌∙◌, subst}
+use Rattle.std.proofs.Common.{List, ℕ, Option, slice_set, sym, ap, ◌∙◌, subst}
 use Rattle.rotations.specs.Runs.{mirror_image}
 use Rattle.faces.proofs.MapMirror.{mirror-system, mirror-image-plane}
 use Rattle.skel_embed.specs.Values.{as_moves}
@@ -9,7 +9,8 @@ use Rattle.spqr_session.specs.Embedded.{BlockView, view_at, view_entry, IsInPlan
 use Rattle.spqr_session.specs.Board.{BoardView, Clears, StandsAt, CanMake, LeadsTo, kept_changed}
 use Rattle.spqr_session.proofs.BlockTrees.{view-at}
 use Rattle.spqr_session.proofs.Boards.{noted-added}
-use Rattle.spqr_session.proofs.BoardSteps.{put-right, put-changed}
+use Rattle.spqr_session.proofs.BoardSteps.{put-right, put-carried, put-changed}
+use Rattle.spqr_session.proofs.MarkedLists.{marked-after, marked-before}
 use Rattle.spqr_session.proofs.board.Board.mirror.Goals as goal
 
 pub step_of-requires : goal.step_of-requires
@@ -42,7 +43,11 @@ invariant_of-self-2 c =
     let leads = subst (λ (r : List (List ℕ)). LeadsTo views s.lists (kept_changed views s.lists b (record { rotation = r; locks = e.locks })) step) lead.mirror (made e s.lists at clears) in
     let set = c.set.ensures ∙ ap (λ (ps : List (ℕ × Option (List ℕ))). lists_set ps s.lists) c.in_ok-lists.ensures in
     let added = noted-added s.log c.reserve.new.self c.note.new.self step c.reserve.ensures.steps c.reserve.ensures.cursor c.note.ensures in
-    put-right views s.lists c.set.new.self b new c.mirror.new.self w step at.within c.index_mut.ensures.value is s.log c.note.new.self c.args.self.now c.self.invariant.board c.self.view_is added leads set
+    record {
+      board = put-right views s.lists c.set.new.self b new c.mirror.new.self w step at.within c.index_mut.ensures.value is s.log c.note.new.self c.args.self.now c.self.invariant.board c.self.view_is added leads set;
+      marked = marked-after views c.deref-2.result.now (slice_set views b c.mirror.new.self) s.lists c.set.new.self c.in_ok-lists.lists.items c.deref-3.result.now c.prepare.new.self c.deref-2.ensures.value c.deref-3.ensures.value
+          (put-carried views s.lists c.set.new.self b new c.mirror.new.self w step at.within c.index_mut.ensures.value is).trees c.set.ensures c.in_ok-prepare.ensures.after;
+    }
 
 pub returns-clause-done : goal.returns-clause-done
 returns-clause-done c =

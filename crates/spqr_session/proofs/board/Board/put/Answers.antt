@@ -1,4 +1,4 @@
-use Rattle.std.proofs.Common.{List, ℕ, Option, sym, ap, ◌∙◌, subst}
+use Rattle.std.proofs.Common.{List, ℕ, Option, slice_set, sym, ap, ◌∙◌, subst}
 use Rattle.multigraph.specs.Graph.{Multigraph}
 use Rattle.faces.specs.Euler.{IsPlaneSystem}
 use Rattle.spqr_session.specs.State.{Embedding}
@@ -7,7 +7,8 @@ use Rattle.spqr_session.specs.History.{lists_set}
 use Rattle.spqr_session.specs.Board.{BoardView, Clears, CanReplace, LeadsTo, kept_changed}
 use Rattle.spqr_session.proofs.BlockTrees.{view-at}
 use Rattle.spqr_session.proofs.Boards.{noted-added}
-use Rattle.spqr_session.proofs.BoardSteps.{put-right, put-changed}
+use Rattle.spqr_session.proofs.BoardSteps.{put-right, put-carried, put-changed}
+use Rattle.spqr_session.proofs.MarkedLists.{marked-after, marked-before}
 use Rattle.spqr_session.proofs.board.Board.put.Goals as goal
 
 pub replace-requires-clause-planar : goal.replace-requires-clause-planar
@@ -29,7 +30,11 @@ invariant_of-self-2 c =
     let leads = made s.lists clears in
     let set = c.set.ensures ∙ ap (λ (ps : List (ℕ × Option (List ℕ))). lists_set ps s.lists) c.in_ok-lists.ensures in
     let added = noted-added s.log c.reserve.new.self c.note.new.self step c.reserve.ensures.steps c.reserve.ensures.cursor c.note.ensures in
-    put-right views s.lists c.set.new.self b e c.replace.new.self c.index_mut.result.now step can.stands.within c.index_mut.ensures.value c.replace.ensures s.log c.note.new.self c.args.self.now c.self.invariant.board c.self.view_is added leads set
+    record {
+      board = put-right views s.lists c.set.new.self b e c.replace.new.self c.index_mut.result.now step can.stands.within c.index_mut.ensures.value c.replace.ensures s.log c.note.new.self c.args.self.now c.self.invariant.board c.self.view_is added leads set;
+      marked = marked-after views c.deref-2.result.now (slice_set views b c.replace.new.self) s.lists c.set.new.self c.in_ok-lists.lists.items c.deref-3.result.now c.prepare.new.self c.deref-2.ensures.value c.deref-3.ensures.value
+          (put-carried views s.lists c.set.new.self b e c.replace.new.self c.index_mut.result.now step can.stands.within c.index_mut.ensures.value c.replace.ensures).trees c.set.ensures c.in_ok-prepare.ensures.after;
+    }
 
 pub returns-clause-done : goal.returns-clause-done
 returns-clause-done c =
