@@ -63,8 +63,8 @@ kept-all lists n e = λ v f. elim (cases_lt v n) [
 ]
 
 -- and where no list is kept: without marks none is
-kept-nowhere : (none marks : List Bool) (lists : List (Option (List ℕ))) → none ≡ [] → AreKeptAt none lists → AreKeptAt marks lists
-kept-nowhere none marks lists e h = λ v f. h v (ap (λ (m : List Bool). is_marked m v) e ∙ unmarked v)
+kept-nowhere : (none marks : List Bool) (lists : List (Option (List ℕ))) → length none ≡ 0 → AreKeptAt none lists → AreKeptAt marks lists
+kept-nowhere none marks lists e h = λ v f. h v (get_or_past none v false (omega (arith, e)))
 
 -- ---- marks
 
@@ -94,10 +94,10 @@ module _ (views : List BlockView) (lists : List (Option (List ℕ))) (ps : List 
 
   module _ (marks : List Bool) (marked : MarkedVertices) (e : marked.marks.items ≡ marks) (f : marked.places.items ≡ map (λ (v : BlockView). marked_in marks v.tree) views) where
     -- the first marks
-    pub first-before : old.marks.items ≡ [] → IsMarked (map view_tree views) lists marked
+    pub first-before : length old.marks.items ≡ 0 → IsMarked (map view_tree views) lists marked
     first-before n = marked-of views lists marks marked e f (kept-nowhere old.marks.items marks lists n h.kept)
 
-    pub first-after : old.marks.items ≡ [] → list_all (may_set marks) ps ≡ true → IsMarked (map view_tree views) (lists_set ps lists) marked
+    pub first-after : length old.marks.items ≡ 0 → list_all (may_set marks) ps ≡ true → IsMarked (map view_tree views) (lists_set ps lists) marked
     first-after n t = marked-of views (lists_set ps lists) marks marked e f (kept-set marks ps lists (kept-nowhere old.marks.items marks lists n h.kept) t)
 
     -- marks at all vertices
