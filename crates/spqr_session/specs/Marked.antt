@@ -31,4 +31,4 @@ pub record IsMarked (trees : List BlockTree) (lists : List (Option (List ℕ))) 
 -- so it is on a board
 pub record IsMarkedBoard (views : List BlockView) (lists : List (Option (List ℕ))) (log : undo_log.History) (marked : MarkedVertices) : Type 0 where
   pub board : IsBoard views lists log
-  pub marked : IsMarked (map view_tree views) lists marked
+  pub marks : IsMarked (map view_tree views) lists marked

@@ -21,7 +21,7 @@ invariant_of-self-2 c =
       board = on-right s.blocks.items other s.lists c.set.new.self s.log c.note.new.self step c.requires.0 c.args.self.now c.self.invariant.board c.self.view_is c.carry_forth.ensures.carried
           (noted-added s.log c.reserve.new.self c.note.new.self step c.reserve.ensures.steps c.reserve.ensures.cursor c.note.ensures) leads
           (step-kept s.blocks.items other s.lists c.set.new.self step c.requires.0 leads c.carry_forth.ensures.entries set);
-      marked = marked-after s.blocks.items c.deref.result.now other s.lists c.set.new.self c.in_ok-lists.lists.items c.deref-2.result.now c.prepare.new.self c.deref.ensures.value c.deref-2.ensures.value c.carry_forth.ensures.carried.trees c.set.ensures c.in_ok-prepare.ensures.after;
+      marks = marked-after s.blocks.items c.deref.result.now other s.lists c.set.new.self c.in_ok-lists.lists.items c.deref-2.result.now c.prepare.new.self c.deref.ensures.value c.deref-2.ensures.value c.carry_forth.ensures.carried.trees c.set.ensures c.in_ok-prepare.ensures.after;
     }
 
 pub returns-clause-done : goal.returns-clause-done

@@ -45,7 +45,7 @@ invariant_of-self-2 c =
     let added = noted-added s.log c.reserve.new.self c.note.new.self step c.reserve.ensures.steps c.reserve.ensures.cursor c.note.ensures in
     record {
       board = put-right views s.lists c.set.new.self b new c.mirror.new.self w step at.within c.index_mut.ensures.value is s.log c.note.new.self c.args.self.now c.self.invariant.board c.self.view_is added leads set;
-      marked = marked-after views c.deref-2.result.now (slice_set views b c.mirror.new.self) s.lists c.set.new.self c.in_ok-lists.lists.items c.deref-3.result.now c.prepare.new.self c.deref-2.ensures.value c.deref-3.ensures.value
+      marks = marked-after views c.deref-2.result.now (slice_set views b c.mirror.new.self) s.lists c.set.new.self c.in_ok-lists.lists.items c.deref-3.result.now c.prepare.new.self c.deref-2.ensures.value c.deref-3.ensures.value
           (put-carried views s.lists c.set.new.self b new c.mirror.new.self w step at.within c.index_mut.ensures.value is).trees c.set.ensures c.in_ok-prepare.ensures.after;
     }
 
