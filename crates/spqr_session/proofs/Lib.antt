@@ -76,6 +76,7 @@ pub mod Moved
 pub mod Walks
 mod MovedExamples
 pub mod ListsSet
+pub mod MarkedLists
 pub mod KeptFamilies
 pub mod Started
 pub mod Families

@@ -1,20 +1,19 @@
 -- Lists that are set at vertices, and those that are removed.
-use Rattle.std.proofs.Common.{◌≡◌, ◌≢◌, ℕ, ◌+◌, ◌<◌, ◌⊎◌, inl, inr, true, false, List, [], ◌∷◌, ◌++◌, length, map, replicate, take, slice_index, slice_index_or, slice_set, Option, None, Some, refl, sym, ap, ◌∙◌, subst, arith, add-one, append_assoc}
+use Rattle.std.proofs.Common.{◌≡◌, ◌≢◌, ℕ, ◌+◌, ◌<◌, ◌⊎◌, inl, inr, true, false, List, [], ◌∷◌, ◌++◌, length, map, replicate, take, slice_index, slice_index_or, slice_set, Option, None, Some, refl, sym, ap, ◌∙◌, subst, arith, append_assoc}
 use Rattle.std.proofs.lemmas.Bool.{cases_Bool, cases_eq, cases_lt, true≢false}
-use Rattle.std.proofs.lemmas.List.{length-set, set-get_or, get_or-set_same, get_or-set_other, get_or_past, get_or-replicate, length-replicate, ext_get_or}
-use Rattle.std.proofs.Math.Seq.{take-suc}
+use Rattle.std.proofs.lemmas.List.{length-set, set-get_or, take_more, get_or-set_same, get_or-set_other, get_or_past, get_or-replicate, length-replicate, ext_get_or}
 use Rattle.permutations.specs.Members.{is_member}
 use Rattle.permutations.proofs.Members.{member-cases, no_member-head, no_member-tail}
 use Rattle.undo_log.specs.declared.step.CutChange.{CutChange}
 use Rattle.spqr_session.specs.History.{lists_set, lists_cleared, list_after, list_before}
-use Rattle.spqr_session.specs.Board.{NoneKept, removal, clearing, clearings, Clears}
+use Rattle.spqr_session.specs.Board.{removal, clearing, clearings, Clears}
 
 -- the list at a vertex
 abbrev at : List (Option (List ℕ)) → ℕ → Option (List ℕ)
 at lists v = slice_index_or lists v None
 
 -- no list is set where there is none
-set-none : (lists : List (Option (List ℕ))) (v : ℕ) → slice_index_or lists v None ≡ None → slice_set lists v None ≡ lists
+pub set-none : (lists : List (Option (List ℕ))) (v : ℕ) → slice_index_or lists v None ≡ None → slice_set lists v None ≡ lists
 set-none lists v e = ap (slice_set lists v) (sym e) ∙ set-get_or lists v None
 
 -- and none is there afterwards
@@ -24,7 +23,7 @@ none-same lists v = elim (cases_lt v (length lists)) [
   | inr n ↦ get_or_past (slice_set lists v None) v None (omega (arith, n, length-set lists v None))
 ]
 
-none-set : (lists : List (Option (List ℕ))) (v u : ℕ) → slice_index_or lists u None ≡ None → slice_index_or (slice_set lists v None) u None ≡ None
+pub none-set : (lists : List (Option (List ℕ))) (v u : ℕ) → slice_index_or lists u None ≡ None → slice_index_or (slice_set lists v None) u None ≡ None
 none-set lists v u e = elim (cases_eq u v) [
   | inl q ↦ subst (λ (z : ℕ). slice_index_or (slice_set lists v None) z None ≡ None) (sym q) (none-same lists v)
   | inr n ↦ get_or-set_other lists v u None None n ∙ e
@@ -68,11 +67,6 @@ pub cleared-other : (vs : List ℕ) (lists : List (Option (List ℕ))) (u : ℕ)
 cleared-other [] lists u f = refl
 cleared-other (v ∷ vs) lists u f = cleared-other vs (slice_set lists v None) u (no_member-tail u v vs f) ∙ get_or-set_other lists v u None None (λ e. no_member-head u v vs f (sym e))
 
--- where there are none, none is removed
-pub cleared-nothing : (vs : List ℕ) (lists : List (Option (List ℕ))) → NoneKept lists → lists_cleared vs lists ≡ lists
-cleared-nothing [] lists h = refl
-cleared-nothing (v ∷ vs) lists h = ap (lists_cleared vs) (set-none lists v (h v)) ∙ cleared-nothing vs lists h
-
 -- ---- the changes that remove lists
 
 -- of the vertices so far, and one more
@@ -83,10 +77,6 @@ clearings-more all [] v = nil (clearing all v)
     nil [] = refl
     nil (x ∷ l) = ap (λ (k : List CutChange). x ∷ k) (nil l)
 clearings-more all (u ∷ vs) v = ap (λ (l : List CutChange). clearing all u ++ l) (clearings-more all vs v) ∙ sym (append_assoc (clearing all u) (clearings all vs) (clearing all v))
-
--- nothing changes where there are none
-pub clears-nothing : (vs : List ℕ) (lists : List (Option (List ℕ))) → NoneKept lists → Clears vs lists []
-clears-nothing vs lists h = record { forth = sym (cleared-nothing vs lists h); back = cleared-nothing vs lists h }
 
 module _ (all : List (Option (List ℕ))) where
   -- the lists are removed, where those are that were there at first or are removed already
@@ -149,9 +139,7 @@ module _ (all : List (Option (List ℕ))) where
   }
 
 -- the changes of the vertices so far, with one more
-pub clearings-step : (all : List (Option (List ℕ))) (vertices : List ℕ) (before old new : List CutChange) (i v : ℕ) → i < length vertices → v ≡ slice_index vertices i → old ≡ before ++ clearings all (take i vertices) → new ≡ old ++ clearing all v
-    → new ≡ before ++ clearings all (take (i + 1) vertices)
-clearings-step all vertices before old new i v l at e f =
-    let more : take (i + 1) vertices ≡ take i vertices ++ v ∷ [] = rw add-one (take-suc vertices i 0 l ∙ ap (λ (x : ℕ). take i vertices ++ x ∷ []) (sym at)) in
-    f ∙ ap (λ (k : List CutChange). k ++ clearing all v) e ∙ append_assoc before (clearings all (take i vertices)) (clearing all v)
-    ∙ ap (λ (k : List CutChange). before ++ k) (sym (ap (clearings all) more ∙ clearings-more all (take i vertices) v))
+pub clearings-step : (all : List (Option (List ℕ))) (vertices : List ℕ) (old new : List CutChange) (i : ℕ) → i < length vertices → old ≡ clearings all (take i vertices) → new ≡ old ++ clearing all (slice_index vertices i)
+    → new ≡ clearings all (take (i + 1) vertices)
+clearings-step all vertices old new i l e f =
+    f ∙ ap (λ (k : List CutChange). k ++ clearing all (slice_index vertices i)) e ∙ sym (ap (clearings all) (take_more vertices i 0 l) ∙ clearings-more all (take i vertices) (slice_index vertices i))

@@ -30,3 +30,8 @@ step-is {E = E} setting before after command given r is h = subst (λ (x : Comma
 pub ok-map : {X E : Type 0} (r : Result X E) (P Q : X → Type 0) → ((x : X) → P x → Q x) → IfOk r P → IfOk r Q
 ok-map (Ok x) P Q f p = f x p
 ok-map (Err e) P Q f p = tt
+
+-- so does what two facts imply together
+pub ok-both : {X E : Type 0} (r : Result X E) (P Q R : X → Type 0) → ((x : X) → P x → Q x → R x) → IfOk r P → IfOk r Q → IfOk r R
+ok-both (Ok x) P Q R f p q = f x p q
+ok-both (Err e) P Q R f p q = tt

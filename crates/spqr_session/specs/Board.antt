@@ -36,10 +36,6 @@ kept_now board = kept_on board.views board.lists
 abbrev pub board_state : Setting → BoardView → State
 board_state setting board = record { present = family_of setting (kept_now board); earlier = map (family_of setting) board.earlier; later = map (family_of setting) board.later }
 
--- no list is kept at any vertex
-abbrev pub NoneKept : List (Option (List ℕ)) → Type 0
-NoneKept lists = (v : ℕ) → slice_index_or lists v None ≡ None
-
 -- the change that removes a list at vertex v
 abbrev pub removal : ℕ → Option (List ℕ) → List CutChange
 removal v None = []

@@ -12,17 +12,18 @@ ghost use Rattle.spqr_session.specs.Moved.{all_moved};
 ghost use Rattle.spqr_session.specs.History.{as_pairs, IsMoveOf, IsStepOf, pairs_moved, block_mirrored, node_locked, entries_redone, entries_undone, lists_before, lists_after};
 ghost use Rattle.spqr_session.specs.Commands.History.{is_none};
 ghost use Rattle.spqr_session.specs.Commands.Lock.{with_lock};
-ghost use Rattle.spqr_session.specs.Board.{HavePlaces, StandsAt, CanReplace, CanMake, AreMade, IsMirroredAt, IsChangedTo, GoesTo, LeadsTo, IsCarried, kept_with_entry, kept_changed, IsUndone, IsRedone};
+ghost use Rattle.spqr_session.specs.Board.{HavePlaces, StandsAt, CanReplace, CanMake, AreMade, IsMirroredAt, IsChangedTo, GoesTo, LeadsTo, IsCarried, Clears, kept_with_entry, kept_changed, IsUndone, IsRedone};
 ghost use Rattle.spqr_session.specs.Wholes.{kept_arranged};
 
 use crate::embedded::EmbeddedBlock;
 use crate::kept::{KeptLists, lists_after, lists_before};
+use crate::marks::MarkedVertices;
 use embed_convert::moves;
 use multigraph::Numbers;
 use skel_embed::{MoveList, Outcome, PlaneBlock};
 use std::alloc::{AllocError, Global};
 use std::marker::Model;
-use undo_log::{Arrangement, BlockMove, BlockMoves, Step, UndoLog};
+use undo_log::{Arrangement, BlockMove, BlockMoves, CutChanges, Step, UndoLog};
 
 /// The blocks of a session with the lists at its cut vertices, and the changes made since its start. Contracts see the blocks, the lists, and
 /// what was kept before and after the present, of each the nearest first. A change drops what is after it; running out of memory leaves
@@ -31,17 +32,20 @@ use undo_log::{Arrangement, BlockMove, BlockMoves, Step, UndoLog};
 pub struct Board {
     blocks: Vec<EmbeddedBlock>,
     lists: KeptLists,
+    // Marks at the vertices at which a list may be kept.
+    marked: MarkedVertices,
     log: UndoLog,
 }
 
 impl Model for Board {
-    ghost use Rattle.spqr_session.specs.Board.{BoardView, board_view, IsBoard};
+    ghost use Rattle.spqr_session.specs.Board.{BoardView, board_view};
+    ghost use Rattle.spqr_session.specs.Marked.{IsMarkedBoard};
 
     ghost Value = { BoardView };
 
     ghost view = { λ b. board_view b.blocks.items b.lists b.log };
 
-    ghost invariant = { λ b. IsBoard b.blocks.items b.lists b.log };
+    ghost invariant = { λ b. IsMarkedBoard b.blocks.items b.lists b.log b.marked };
 }
 
 impl Board {
@@ -51,8 +55,14 @@ impl Board {
         ensures { IfOk result (λ board. board ≡ record { views = blocks.items; lists = replicate n None; earlier = []; later = [] }) }
     {
         let lists = KeptLists::none(alloc, n)?;
+        let marked = MarkedVertices::none(alloc);
         let log = UndoLog::new(alloc);
-        Ok(Board { blocks, lists, log })
+        Ok(Board {
+            blocks,
+            lists,
+            marked,
+            log,
+        })
     }
 
     /// The blocks.
@@ -84,6 +94,14 @@ impl Board {
         &self.lists
     }
 
+    // The changes that remove the lists at the vertices of block b.
+    fn cleared(&self, alloc: Global, b: u32) -> Result<CutChanges, AllocError>
+        requires { b < length self.now.views }
+        ensures { IfOk result (Clears (view_at self.now.views b).tree.part.vertices self.now.lists) }
+    {
+        self.lists.cleared(alloc, self.marked.in_block(b))
+    }
+
     /// Whether something is earlier.
     pub fn can_undo(&self) -> bool
         ensures { result ≡ not (is_none self.now.earlier) }
@@ -107,6 +125,8 @@ impl Board {
     {
         let lists = lists_after(alloc, &step)?;
         self.log.reserve()?;
+        self.marked
+            .prepare(alloc, &self.blocks, &self.lists, &lists)?;
         carry_forth(&mut self.blocks, &step);
         self.lists.set(lists);
         self.log.note(step);
@@ -122,9 +142,12 @@ impl Board {
         ensures memory { OnErr result (self.new ≡ self.old) }
     {
         plane.belongs();
-        let step = step_to(alloc, &self.blocks, &self.lists, b, &plane)?;
+        let cuts = self.cleared(alloc, b)?;
+        let step = step_to(alloc, &self.blocks, b, &plane, cuts)?;
         let lists = lists_after(alloc, &step)?;
         self.log.reserve()?;
+        self.marked
+            .prepare(alloc, &self.blocks, &self.lists, &lists)?;
         self.log.note(step);
         self.lists.set(lists);
         self.blocks[b as usize].replace(plane);
@@ -138,7 +161,8 @@ impl Board {
         ensures done { IfOk result (λ _. AreMade self.old b (as_moves forth) self.new) }
         ensures memory { OnErr result (self.new ≡ self.old) }
     {
-        let step = step_of(alloc, &self.blocks, &self.lists, b, forth)?;
+        let cuts = self.cleared(alloc, b)?;
+        let step = step_of(alloc, &self.blocks, b, forth, cuts)?;
         self.carry(alloc, step)
     }
 
@@ -148,7 +172,8 @@ impl Board {
         ensures done { IfOk result (λ _. IsMirroredAt self.old b self.new) }
         ensures memory { OnErr result (self.new ≡ self.old) }
     {
-        let step = mirror_step(alloc, &self.blocks, &self.lists, b)?;
+        let cuts = self.cleared(alloc, b)?;
+        let step = mirror_step(&self.blocks, b, cuts);
         self.carry(alloc, step)
     }
 
@@ -182,6 +207,8 @@ impl Board {
         ensures memory { OnErr result (self.new ≡ self.old) }
     {
         let lists = earlier_lists(alloc, &self.log)?;
+        self.marked
+            .prepare(alloc, &self.blocks, &self.lists, &lists)?;
         if let Ok(step) = self.log.undo() {
             carry_back(&mut self.blocks, step);
             self.lists.set(lists);
@@ -197,6 +224,8 @@ impl Board {
         ensures memory { OnErr result (self.new ≡ self.old) }
     {
         let lists = later_lists(alloc, &self.log)?;
+        self.marked
+            .prepare(alloc, &self.blocks, &self.lists, &lists)?;
         if let Ok(step) = self.log.redo() {
             carry_forth(&mut self.blocks, step);
             self.lists.set(lists);
@@ -229,19 +258,21 @@ fn moves_to(alloc: Global, b: u32, p: &PlaneBlock, q: &PlaneBlock) -> Result<Blo
     in_block(alloc, b, MoveList::of(moves(alloc, p, q)?))
 }
 
-// The step from block b to a block that takes its place.
+// The step from block b to a block that takes its place, with these changes at its cut vertices.
 fn step_to(
     alloc: Global,
     blocks: &[EmbeddedBlock],
-    lists: &KeptLists,
     b: u32,
     plane: &PlaneBlock,
+    cuts: CutChanges,
 ) -> Result<Step, AllocError>
     requires { (e : Embedding) × CanReplace blocks.now b e plane.now }
-    ensures { IfOk result (LeadsTo blocks.now lists.now (kept_changed blocks.now lists.now b (record {
-      rotation = plane.now.rotation;
-      locks = plane.now.locks;
-    }))) }
+    ensures { (lists : List (Option (List ℕ)))
+        → Clears (view_at blocks.now b).tree.part.vertices lists cuts
+        → IfOk result (LeadsTo blocks.now lists (kept_changed blocks.now lists b (record {
+          rotation = plane.now.rotation;
+          locks = plane.now.locks;
+        }))) }
 {
     plane.belongs();
     let block = &blocks[b as usize];
@@ -249,23 +280,24 @@ fn step_to(
         Outcome::Plane(present) => Ok(Step::Moves {
             forth: moves_to(alloc, b, present, plane)?,
             back: moves_to(alloc, b, plane, present)?,
-            cuts: lists.cleared(alloc, block.part())?,
+            cuts,
         }),
         Outcome::Not(_, _, _) => unreachable!(),
     }
 }
 
-// The step that makes moves of block b.
+// The step that makes moves of block b, with these changes at its cut vertices.
 fn step_of(
     alloc: Global,
     blocks: &[EmbeddedBlock],
-    lists: &KeptLists,
     b: u32,
     forth: MoveList,
+    cuts: CutChanges,
 ) -> Result<Step, AllocError>
     requires { CanMake blocks.now b (as_moves forth) }
-    ensures leads { (e : Embedding) → StandsAt blocks.now b e
-        → IfOk result (LeadsTo blocks.now lists.now (kept_changed blocks.now lists.now b (record {
+    ensures leads { (e : Embedding) (lists : List (Option (List ℕ))) → StandsAt blocks.now b e
+        → Clears (view_at blocks.now b).tree.part.vertices lists cuts
+        → IfOk result (LeadsTo blocks.now lists (kept_changed blocks.now lists b (record {
           rotation = all_moved (view_at blocks.now b).tree.nodes (as_moves forth) e.rotation;
           locks = e.locks;
         }))) }
@@ -277,31 +309,23 @@ fn step_of(
     Ok(Step::Moves {
         forth: in_block(alloc, b, forth)?,
         back: in_block(alloc, b, back)?,
-        cuts: lists.cleared(alloc, block.part())?,
+        cuts,
     })
 }
 
-// The step that reverses every rotation of block b.
-fn mirror_step(
-    alloc: Global,
-    blocks: &[EmbeddedBlock],
-    lists: &KeptLists,
-    b: u32,
-) -> Result<Step, AllocError>
+// The step that reverses every rotation of block b, with these changes at its cut vertices.
+fn mirror_step(blocks: &[EmbeddedBlock], b: u32, cuts: CutChanges) -> Step
     requires { (e : Embedding) × StandsAt blocks.now b e }
-    ensures leads { (e : Embedding) → StandsAt blocks.now b e
-        → IfOk result (LeadsTo blocks.now lists.now (kept_changed blocks.now lists.now b (record {
+    ensures leads { (e : Embedding) (lists : List (Option (List ℕ))) → StandsAt blocks.now b e
+        → Clears (view_at blocks.now b).tree.part.vertices lists cuts
+        → LeadsTo blocks.now lists (kept_changed blocks.now lists b (record {
           rotation = mirror_image e.rotation;
           locks = e.locks;
-        }))) }
+        })) result }
     ensures plane { IsInPlane (view_at blocks.now b) }
 {
-    let block = &blocks[b as usize];
-    block.belongs();
-    Ok(Step::Mirror {
-        block: b,
-        cuts: lists.cleared(alloc, block.part())?,
-    })
+    blocks[b as usize].belongs();
+    Step::Mirror { block: b, cuts }
 }
 
 // The step that locks node k of block b, or takes its lock away.

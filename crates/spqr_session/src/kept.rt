@@ -1,9 +1,9 @@
 // The lists that are kept at cut vertices.
 ghost use Rattle.std.specs.Prelude.{◌≡◌, ◌∷◌, ◌++◌, [], length, map, replicate, slice_index_or, slice_set, None, Some, IfOk, MatchOption};
 ghost use Rattle.spqr_session.specs.History.{list_after, list_before, lists_after, lists_before, lists_set};
-ghost use Rattle.spqr_session.specs.Board.{clearing, clearings, Clears};
+ghost use Rattle.spqr_session.specs.Board.{clearing, Clears};
 
-use multigraph::{Numbers, Part};
+use multigraph::Numbers;
 use std::alloc::{AllocError, Global};
 use std::marker::Model;
 use undo_log::{Arrangement, CutChange, CutChanges, SharedNumbers, Step};
@@ -13,19 +13,14 @@ use undo_log::{Arrangement, CutChange, CutChanges, SharedNumbers, Step};
 #[derive(Debug, Drop)]
 pub struct KeptLists {
     lists: Vec<Arrangement>,
-    // Whether a list may be kept at some vertex.
-    some: bool,
 }
 
 impl Model for KeptLists {
-    ghost use Rattle.std.specs.Prelude.{◌≡◌, ℕ, false, List, Option};
-    ghost use Rattle.spqr_session.specs.Board.{NoneKept};
+    ghost use Rattle.std.specs.Prelude.{ℕ, List, Option};
 
     ghost Value = { List (Option (List ℕ)) };
 
     ghost view = { λ kept. kept.lists.items };
-
-    ghost invariant = { λ kept. kept.some ≡ false → NoneKept kept.lists.items };
 }
 
 impl KeptLists {
@@ -37,7 +32,14 @@ impl KeptLists {
         for _ in 0..n {
             lists.push(None)?;
         }
-        Ok(KeptLists { lists, some: false })
+        Ok(KeptLists { lists })
+    }
+
+    /// The number of vertices.
+    pub fn count(&self) -> usize
+        ensures { result ≡ length self.now }
+    {
+        self.lists.len()
     }
 
     /// The list at vertex `v`.
@@ -51,14 +53,13 @@ impl KeptLists {
         }
     }
 
-    /// The changes that remove the lists at the vertices of a part.
-    pub fn cleared(&self, alloc: Global, part: &Part) -> Result<CutChanges, AllocError>
-        ensures { IfOk result (Clears part.now.vertices self.now) }
+    /// The changes that remove the lists at these vertices.
+    pub fn cleared(&self, alloc: Global, vertices: &[u32]) -> Result<CutChanges, AllocError>
+        ensures { IfOk result (Clears vertices.now self.now) }
     {
-        part.keeps_numbers();
         let mut cuts = Vec::new(alloc);
-        if self.some {
-            self.clear_all(&mut cuts, part)?;
+        for v in vertices {
+            self.clear(&mut cuts, *v)?;
         }
         Ok(CutChanges::of(cuts))
     }
@@ -92,18 +93,6 @@ impl KeptLists {
         }
     }
 
-    // Adds the changes that remove the lists at the vertices of a part.
-    fn clear_all(&self, cuts: &mut Vec<CutChange>, part: &Part) -> Result<(), AllocError>
-        requires { length part.now.vertices ≡ part.now.graph.vertex_count }
-        ensures { IfOk result (λ _. cuts.new.items ≡ cuts.old.items
-            ++ clearings self.now part.now.vertices) }
-    {
-        for i in 0..part.graph().vertex_count() {
-            self.clear(cuts, part.vertex(i))?;
-        }
-        Ok(())
-    }
-
     // Adds the change that removes the list at vertex v, if there is one.
     fn clear(&self, cuts: &mut Vec<CutChange>, v: u32) -> Result<(), AllocError>
         ensures { IfOk result (λ _. cuts.new.items ≡ cuts.old.items ++ clearing self.now v) }
@@ -135,7 +124,6 @@ impl KeptLists {
     {
         if (v as usize) < self.lists.len() {
             self.lists[v as usize] = list;
-            self.some = true;
         }
     }
 }

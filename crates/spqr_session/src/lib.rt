@@ -34,6 +34,7 @@ mod kept;
 pub mod laws;
 mod lines;
 mod making;
+mod marks;
 mod planned;
 mod scene;
 mod session;

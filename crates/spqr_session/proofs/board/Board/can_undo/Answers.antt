@@ -8,4 +8,4 @@ use Rattle.spqr_session.proofs.board.Board.can_undo.Goals as goal
 pub returns : goal.returns
 returns c =
     let views = c.self.inside.blocks.items in
-    c.can_undo.ensures ∙ can-undo (map view_tree views) (kept_on views c.self.inside.lists) c.self.inside.log c.self.invariant.0.cursor ∙ ap (λ (v : BoardView). not (is_none v.earlier)) c.self.view_is
+    c.can_undo.ensures ∙ can-undo (map view_tree views) (kept_on views c.self.inside.lists) c.self.inside.log c.self.invariant.board.0.cursor ∙ ap (λ (v : BoardView). not (is_none v.earlier)) c.self.view_is

@@ -4,6 +4,7 @@ use Rattle.spqr_session.specs.History.{lists_set, IsStepOf}
 use Rattle.spqr_session.specs.Board.{BoardView, LeadsTo}
 use Rattle.spqr_session.proofs.Boards.{noted-added}
 use Rattle.spqr_session.proofs.BoardSteps.{on-right, on-goes, step-kept}
+use Rattle.spqr_session.proofs.MarkedLists.{marked-after, marked-before}
 use Rattle.spqr_session.proofs.board.Board.carry.Goals as goal
 
 pub carry_forth-requires : goal.carry_forth-requires
@@ -16,9 +17,12 @@ invariant_of-self-2 c =
     let leads = subst (λ (v : BoardView). LeadsTo v.views v.lists c.requires.0 step) (sym c.self.view_is) c.requires.1 in
     let set = c.set.ensures ∙ ap (λ (ps : List (ℕ × Option (List ℕ))). lists_set ps s.lists) c.in_ok-lists.ensures in
     let other = c.carry_forth.new.blocks.items in
-    on-right s.blocks.items other s.lists c.set.new.self s.log c.note.new.self step c.requires.0 c.args.self.now c.self.invariant c.self.view_is c.carry_forth.ensures.carried
-    (noted-added s.log c.reserve.new.self c.note.new.self step c.reserve.ensures.steps c.reserve.ensures.cursor c.note.ensures) leads
-    (step-kept s.blocks.items other s.lists c.set.new.self step c.requires.0 leads c.carry_forth.ensures.entries set)
+    record {
+      board = on-right s.blocks.items other s.lists c.set.new.self s.log c.note.new.self step c.requires.0 c.args.self.now c.self.invariant.board c.self.view_is c.carry_forth.ensures.carried
+          (noted-added s.log c.reserve.new.self c.note.new.self step c.reserve.ensures.steps c.reserve.ensures.cursor c.note.ensures) leads
+          (step-kept s.blocks.items other s.lists c.set.new.self step c.requires.0 leads c.carry_forth.ensures.entries set);
+      marks = marked-after s.blocks.items c.deref.result.now other s.lists c.set.new.self c.in_ok-lists.lists.items c.deref-2.result.now c.prepare.new.self c.deref.ensures.value c.deref-2.ensures.value c.carry_forth.ensures.carried.trees c.set.ensures c.in_ok-prepare.ensures.after;
+    }
 
 pub returns-clause-done : goal.returns-clause-done
 returns-clause-done c = λ kept given.
@@ -27,6 +31,6 @@ returns-clause-done c = λ kept given.
     let leads = subst (λ (v : BoardView). LeadsTo v.views v.lists kept step) (sym c.self.view_is) given in
     let set = c.set.ensures ∙ ap (λ (ps : List (ℕ × Option (List ℕ))). lists_set ps s.lists) c.in_ok-lists.ensures in
     let other = c.carry_forth.new.blocks.items in
-    on-goes s.blocks.items other s.lists c.set.new.self s.log c.note.new.self step kept c.args.self.now c.self.invariant c.self.view_is c.carry_forth.ensures.carried
+    on-goes s.blocks.items other s.lists c.set.new.self s.log c.note.new.self step kept c.args.self.now c.self.invariant.board c.self.view_is c.carry_forth.ensures.carried
     (noted-added s.log c.reserve.new.self c.note.new.self step c.reserve.ensures.steps c.reserve.ensures.cursor c.note.ensures) leads
     (step-kept s.blocks.items other s.lists c.set.new.self step kept leads c.carry_forth.ensures.entries set)

@@ -4,4 +4,4 @@ use Rattle.spqr_session.specs.Board.{BoardView, HavePlaces}
 use Rattle.spqr_session.proofs.board.Board.keeps_places.Goals as goal
 
 pub returns : goal.returns
-returns c = subst (λ (b : BoardView). HavePlaces (map view_tree b.views) (length b.lists)) c.self.view_is c.self.invariant.1
+returns c = subst (λ (b : BoardView). HavePlaces (map view_tree b.views) (length b.lists)) c.self.view_is c.self.invariant.board.1

@@ -1,9 +1,9 @@
-use Rattle.std.proofs.Common.{List, sym, subst}
+use Rattle.std.proofs.Common.{List, ℕ, Option, sym, subst}
 use Rattle.skel_embed.specs.Values.{as_moves}
 use Rattle.spqr_session.specs.State.{Embedding}
 use Rattle.spqr_session.specs.Moved.{all_moved}
 use Rattle.spqr_session.specs.Embedded.{BlockView, view_at, IsInPlane}
-use Rattle.spqr_session.specs.Board.{BoardView, StandsAt, CanMake, LeadsTo, GoesTo, kept_changed, AreMade}
+use Rattle.spqr_session.specs.Board.{BoardView, Clears, StandsAt, CanMake, LeadsTo, GoesTo, kept_changed, AreMade}
 use Rattle.spqr_session.proofs.Moved.{moves-keep}
 use Rattle.spqr_session.proofs.Steps.{ok-map}
 use Rattle.spqr_session.proofs.WaysBack.{all-lead}
@@ -19,8 +19,10 @@ carry-requires c =
     let can = subst (λ (v : BoardView). CanMake v.views b moves) (sym c.self.view_is) c.requires in
     let e = can.entry in
     let new : Embedding = record { rotation = all_moved (view_at views b).tree.nodes moves e.rotation; locks = e.locks } in
-    let made = subst (λ (l : List BlockView). (x : Embedding) → StandsAt l b x → LeadsTo l s.lists (kept_changed l s.lists b (record { rotation = all_moved (view_at l b).tree.nodes moves x.rotation; locks = x.locks })) step) c.deref.ensures.value c.in_ok-step.ensures.leads in
-    (kept_changed views s.lists b new, subst (λ (v : BoardView). LeadsTo v.views v.lists (kept_changed views s.lists b new) step) c.self.view_is (made e can.stands))
+    let cuts = c.in_ok-cuts.cuts in
+    let clears = subst (λ (v : BoardView). Clears (view_at v.views b).tree.part.vertices v.lists cuts) (sym c.self.view_is) (c.in_ok-cuts.ensures {u = tt}) in
+    let made = subst (λ (l : List BlockView). (x : Embedding) (ls : List (Option (List ℕ))) → StandsAt l b x → Clears (view_at l b).tree.part.vertices ls cuts → LeadsTo l ls (kept_changed l ls b (record { rotation = all_moved (view_at l b).tree.nodes moves x.rotation; locks = x.locks })) step) c.deref.ensures.value c.in_ok-step.ensures.leads in
+    (kept_changed views s.lists b new, subst (λ (v : BoardView). LeadsTo v.views v.lists (kept_changed views s.lists b new) step) c.self.view_is (made e s.lists can.stands clears))
 
 pub returns-clause-done : goal.returns-clause-done
 returns-clause-done c =
@@ -32,8 +34,10 @@ returns-clause-done c =
     let can = subst (λ (v : BoardView). CanMake v.views b moves) (sym c.self.view_is) c.requires in
     let e = can.entry in
     let new : Embedding = record { rotation = all_moved (view_at views b).tree.nodes moves e.rotation; locks = e.locks } in
-    let made = subst (λ (l : List BlockView). (x : Embedding) → StandsAt l b x → LeadsTo l s.lists (kept_changed l s.lists b (record { rotation = all_moved (view_at l b).tree.nodes moves x.rotation; locks = x.locks })) step) c.deref.ensures.value c.in_ok-step.ensures.leads in
-    let leads = subst (λ (v : BoardView). LeadsTo v.views v.lists (kept_changed views s.lists b new) step) c.self.view_is (made e can.stands) in
+    let cuts = c.in_ok-cuts.cuts in
+    let clears = subst (λ (v : BoardView). Clears (view_at v.views b).tree.part.vertices v.lists cuts) (sym c.self.view_is) (c.in_ok-cuts.ensures {u = tt}) in
+    let made = subst (λ (l : List BlockView). (x : Embedding) (ls : List (Option (List ℕ))) → StandsAt l b x → Clears (view_at l b).tree.part.vertices ls cuts → LeadsTo l ls (kept_changed l ls b (record { rotation = all_moved (view_at l b).tree.nodes moves x.rotation; locks = x.locks })) step) c.deref.ensures.value c.in_ok-step.ensures.leads in
+    let leads = subst (λ (v : BoardView). LeadsTo v.views v.lists (kept_changed views s.lists b new) step) c.self.view_is (made e s.lists can.stands clears) in
     let right = subst (λ (l : List BlockView). IsInPlane (view_at l b)) c.deref.ensures.value c.in_ok-step.ensures.plane e can.stands.entry in
     let tree = (view_at views b).tree in
     ok-map c.carry.result (λ _. GoesTo c.args.self.now (kept_changed views s.lists b new) c.carry.new.self) (λ _. AreMade c.args.self.now b moves c.carry.new.self)
