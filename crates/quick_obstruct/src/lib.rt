@@ -16,7 +16,9 @@
 #![tactic(auto)]
 
 mod along;
+mod chart;
 mod forest;
+mod itself;
 mod minors;
 mod needed;
 mod obstruct;
@@ -25,6 +27,8 @@ mod reading;
 mod segments;
 mod shortening;
 mod shrinking;
+mod sliding;
+mod tetrahedron;
 mod thin;
 
 pub use obstruct::propose_subdivision;

@@ -1,28 +1,32 @@
 // Few edges that are not planar: of the edges off a tree those are kept without which the rest would be planar.
 
 use crate::prefixes::Prefixes;
-use quick_rotation::{EdgeEnds, PartTest, numbers_below};
+use quick_rotation::{Bins, EdgeEnds, PartTest};
 use std::alloc::{AllocError, Global};
 
 // How often a search moves to where an obstruction was found, and how often it may examine each edge.
 const MOVES: u32 = 3;
 
-const STEPS: u64 = 20;
+const STEPS: u64 = 6;
 
-// The prefixes from a root that is near the end of the least one, and the count of that one.
+// The prefixes from a root that is near the end of the least one, and the count of that one; `None` where it has too many edges.
 fn prefixes_near<'a>(
     alloc: Global,
     list: &'a EdgeEnds,
+    around: &Bins,
     test: &mut PartTest,
     root: u32,
-) -> Result<(Prefixes<'a>, u32), AllocError> {
-    let edges = numbers_below(alloc, list.edge_count())?;
-    let mut prefixes = Prefixes::from(alloc, list, &edges, root)?;
-    let mut count = prefixes.first(test)?;
+) -> Result<Option<(Prefixes<'a>, u32)>, AllocError> {
+    let mut prefixes = Prefixes::from(alloc, list, around, root)?;
+    let Some(mut count) = prefixes.first(test)? else {
+        return Ok(None);
+    };
     for _ in 0..MOVES {
         let root = list.tail(prefixes.last_edge(count).saturating_mul(2));
-        let mut others = Prefixes::from(alloc, list, &edges, root)?;
-        let fewer = others.first(test)?;
+        let mut others = Prefixes::from(alloc, list, around, root)?;
+        let Some(fewer) = others.first(test)? else {
+            break;
+        };
         if fewer >= count {
             break;
         }
@@ -33,7 +37,7 @@ fn prefixes_near<'a>(
             break;
         }
     }
-    Ok((prefixes, count))
+    Ok(Some((prefixes, count)))
 }
 
 // Few edges of a connected list that are not planar, where the list is not; from the root at first. `None` where the search gives
@@ -41,10 +45,13 @@ fn prefixes_near<'a>(
 pub(crate) fn few_edges(
     alloc: Global,
     list: &EdgeEnds,
+    around: &Bins,
     test: &mut PartTest,
     root: u32,
 ) -> Result<Option<Vec<u32>>, AllocError> {
-    let (mut prefixes, count) = prefixes_near(alloc, list, test, root)?;
+    let Some((mut prefixes, count)) = prefixes_near(alloc, list, around, test, root)? else {
+        return Ok(None);
+    };
     let mut needed = vec![in alloc; prefixes.last_edge(count); 1]?;
     let mut rest = count.saturating_sub(1);
     let budget = STEPS.saturating_mul(u64::from(list.edge_count()));

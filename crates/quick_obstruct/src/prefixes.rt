@@ -3,11 +3,14 @@
 
 use crate::forest::{SearchTree, breadth_first};
 use quick_rotation::access::{NONE, at, number, put};
-use quick_rotation::{EdgeEnds, PartTest};
+use quick_rotation::{Bins, EdgeEnds, PartTest};
 use std::alloc::{AllocError, Global};
 
 // How many edges off a tree are planar with any part of it: a subdivision of K3,3 has four.
 const ALWAYS_PLANAR: usize = 3;
+
+// How many edges off a tree are many.
+const MANY: u32 = 100;
 
 // A prefix as it is collected: its edges, and its number at each vertex that it reaches. The next one takes its memory.
 #[derive(Drop)]
@@ -81,16 +84,15 @@ pub(crate) struct Prefixes<'a> {
 }
 
 impl<'a> Prefixes<'a> {
-    // The prefixes of these edges, from the root on along a breadth-first tree.
+    // The prefixes of the edges of these darts, from the root on along a breadth-first tree.
     pub(crate) fn from(
         alloc: Global,
         list: &'a EdgeEnds,
-        edges: &[u32],
+        around: &Bins,
         root: u32,
     ) -> Result<Prefixes<'a>, AllocError> {
-        let around = list.darts_of(alloc, edges)?;
         let marks = vec![in alloc; false; list.vertices as usize]?;
-        let tree = breadth_first(alloc, list, &around, root, NONE, marks)?;
+        let tree = breadth_first(alloc, list, around, root, NONE, marks)?;
         let prefix = Prefix {
             edges: Vec::new(alloc),
             number: 0,
@@ -127,6 +129,28 @@ impl<'a> Prefixes<'a> {
     pub(crate) fn prefix(&mut self, count: u32, needed: &[u32]) -> Result<Vec<u32>, AllocError> {
         self.collect(count, needed)?;
         Vec::from_slice(self.alloc, &self.prefix.edges)
+    }
+
+    // Those of the edges of the paths that are not in the tree.
+    pub(crate) fn off_tree(&self, paths: &[Vec<u32>]) -> Result<Vec<u32>, AllocError> {
+        let mut off = Vec::new(self.alloc);
+        for path in paths {
+            self.put_off_tree(path, &mut off)?;
+        }
+        Ok(off)
+    }
+
+    // Appends those of the edges that are not in the tree.
+    fn put_off_tree(&self, edges: &[u32], off: &mut Vec<u32>) -> Result<(), AllocError> {
+        for edge in edges {
+            let dart = edge.saturating_mul(2);
+            let up = at(&self.tree.up, self.list.tail(dart));
+            let down = at(&self.tree.up, self.list.head(dart));
+            if up / 2 != *edge && down / 2 != *edge {
+                off.push(*edge)?;
+            }
+        }
+        Ok(())
     }
 
     // Whether this prefix is planar.
@@ -183,8 +207,9 @@ impl<'a> Prefixes<'a> {
         self.least(test, 0, below, needed)
     }
 
-    // The least count for which the prefix is not planar, or that of all edges if each prefix is planar.
-    pub(crate) fn first(&mut self, test: &mut PartTest) -> Result<u32, AllocError> {
+    // The least count for which the prefix is not planar; `None` where many edges are and more than a quarter of all.
+    pub(crate) fn first(&mut self, test: &mut PartTest) -> Result<Option<u32>, AllocError> {
+        let most = (self.count() / 4).max(MANY);
         let mut low = 0;
         let mut high: u32 = 8;
         for _ in 0..32 {
@@ -192,12 +217,15 @@ impl<'a> Prefixes<'a> {
                 high = self.count();
                 break;
             }
+            if high > most {
+                return Ok(None);
+            }
             if !self.is_planar(test, high, &[])? {
                 break;
             }
             low = high;
             high = high.saturating_mul(2);
         }
-        self.least(test, low, high, &[])
+        Ok(Some(self.least(test, low, high, &[])?))
     }
 }
