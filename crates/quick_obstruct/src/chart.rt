@@ -2,7 +2,7 @@
 // segments are long.
 
 use crate::segments::{Segment, segments};
-use quick_rotation::access::{at, number};
+use quick_rotation::access::{at, number, put};
 use quick_rotation::{EdgeEnds, PartTest, bins_by_key};
 use std::alloc::{AllocError, Global};
 
@@ -68,12 +68,15 @@ impl Keys {
     }
 }
 
-// Segments as the edges of a list, those that are left of them, and how many edges the tests may still examine.
+// Segments as the edges of a list, those that are left of them, and how many edges the tests may still examine. Each vertex that a
+// test has met has the number of the last one that did.
 #[derive(Drop)]
 struct Chart {
     list: EdgeEnds,
     left: Vec<u32>,
     rest: Vec<u32>,
+    met: Vec<u32>,
+    tests: u32,
     budget: u64,
 }
 
@@ -92,6 +95,8 @@ impl Chart {
             },
             left: Vec::with_capacity(alloc, places.len())?,
             rest: Vec::with_capacity(alloc, places.len())?,
+            met: vec![in alloc; 0; vertices as usize]?,
+            tests: 0,
             budget: 0,
         };
         for place in places {
@@ -102,6 +107,38 @@ impl Chart {
             }
         }
         Ok(chart)
+    }
+
+    // Meets the vertex. Returns whether this test has met it before.
+    fn meets_again(&mut self, vertex: u32) -> bool {
+        let before = at(&self.met, vertex);
+        put(&mut self.met, vertex, self.tests);
+        before == self.tests
+    }
+
+    // How many vertices the rest has.
+    fn vertices(&mut self) -> usize {
+        self.tests = self.tests.saturating_add(1);
+        let mut count: usize = 0;
+        for k in 0..number(self.rest.len()) {
+            let dart = at(&self.rest, k).saturating_mul(2);
+            let (tail, head) = (self.list.tail(dart), self.list.head(dart));
+            if !self.meets_again(tail) {
+                count = count.saturating_add(1);
+            }
+            if !self.meets_again(head) {
+                count = count.saturating_add(1);
+            }
+        }
+        count
+    }
+
+    // Whether the rest is planar. It is if it is connected and fewer than four of its edges are off a tree.
+    fn is_rest_planar(&mut self, test: &mut PartTest) -> Result<bool, AllocError> {
+        if self.rest.len() < self.vertices().saturating_add(3) {
+            return Ok(true);
+        }
+        test.is_planar(&self.list, &self.rest)
     }
 
     // Drops this many edges from a place on, if what is left is not planar. Returns whether they are dropped.
@@ -117,7 +154,7 @@ impl Chart {
         self.rest.extend_from_slice(&self.left[..start])?;
         self.rest.extend_from_slice(&self.left[end..])?;
         self.budget = self.budget.saturating_sub(self.rest.len() as u64);
-        if test.is_planar(&self.list, &self.rest)? {
+        if self.is_rest_planar(test)? {
             return Ok(false);
         }
         self.left.clear();

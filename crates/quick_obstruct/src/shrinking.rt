@@ -1,9 +1,11 @@
 // Edges that are not planar, found by minors: a list is made smaller as long as it is not planar.
 //
-// What has a minor that is not planar is not planar. So the edges of a forest along the thin places of the minor at hand, and
-// the others, are partitioned into pieces, and each piece is contracted or dropped where what is left is still not planar; first few
-// large pieces, then more, until each is one edge. A minor whose edges can neither be dropped nor contracted is K5 or K3,3.
-// Last, the edges that hold together what was contracted are added: these and those of the minor are few paths.
+// What has a minor that is not planar is not planar. At first all edges of a forest along the thin places are contracted but those
+// in windows, which are at the root and at equal distances from one another; where the rest is planar, those of one half. Then the
+// edges of a forest of the minor at hand, and the others, are partitioned into pieces, and each piece is contracted or dropped where
+// what is left is still not planar; first few large pieces, then more, until each is one edge. A minor whose edges can neither be
+// dropped nor contracted is K5 or K3,3. Last, the edges that hold together what was contracted are added: these and those of the
+// minor are few paths.
 
 use crate::along::{Forest, forest_along};
 use crate::minors::{Minor, MinorOperation, Pieces};

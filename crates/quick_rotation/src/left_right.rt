@@ -82,15 +82,11 @@ impl PartTest {
         })
     }
 
-    /// Whether the method finds that these edges of the list, of which no two are parallel, are planar. If they are connected and
-    /// fewer than four of them are off a tree, they always are. Fails only if memory runs out.
+    /// Whether the method finds that these edges of the list, of which no two are parallel, are planar. Fails only if memory runs
+    /// out.
     pub fn is_planar(&mut self, list: &EdgeEnds, edges: &[u32]) -> Result<bool, AllocError> {
         self.parts.take(list, edges)?;
-        let part = &self.parts.part;
-        if part.edge_count() < part.vertices.saturating_add(3) {
-            return Ok(true);
-        }
-        self.test.is_planar(part)
+        self.test.is_planar(&self.parts.part)
     }
 }
 
