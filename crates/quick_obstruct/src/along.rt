@@ -1,7 +1,7 @@
 // A forest of a list that leads along its thin places and not across: breadth first by the edges that are not thin, and by a
 // thin one only where no other leads on.
 
-use crate::thin::{Beside, beside};
+use crate::thin::{Beside, new_search};
 use quick_rotation::access::{NONE, at, is_marked, mark, number, put};
 use quick_rotation::{Bins, EdgeEnds, numbers_below};
 use std::alloc::{AllocError, Global};
@@ -91,7 +91,7 @@ fn new_growth(alloc: Global, list: &EdgeEnds) -> Result<Growth, AllocError> {
         waiting: Vec::new(alloc),
         depth: vec![in alloc; NONE; list.vertices as usize]?,
         met: vec![in alloc; false; list.edge_count() as usize]?,
-        beside: beside(alloc, list)?,
+        beside: new_search(alloc, list)?,
     })
 }
 

@@ -131,7 +131,7 @@ impl Beside {
 }
 
 // No search yet.
-pub(crate) fn beside(alloc: Global, list: &EdgeEnds) -> Result<Beside, AllocError> {
+pub(crate) fn new_search(alloc: Global, list: &EdgeEnds) -> Result<Beside, AllocError> {
     Ok(Beside {
         edge: NONE,
         first: NONE,
