@@ -4,7 +4,7 @@
 // them is found that is not planar with the paths of the tree up from their ends, and of its edges those are kept without which
 // the rest would be planar, each found by bisection. Few are left, mostly four to seven.
 //
-// Where the least prefix has more than a quarter of the edges, or where the edges off the tree are needed one by one, minors are
+// Where the least prefix has many edges and more than a quarter of all, or where the edges off the tree are needed one by one, minors are
 // looked for: edges are contracted or dropped as long as the rest is not planar, down to some ten edges. First all edges of a forest
 // are contracted that are not in one of some windows; in a long and narrow graph this leaves a small one. Then pieces of the rest
 // are tried. What was contracted is held together by paths.
@@ -12,7 +12,8 @@
 // Then the paths between vertices of degree three or more are dropped, as long as the rest is not planar; the tests see each as one
 // edge. By Kuratowski (1930) what is left are the paths of a subdivision of K5 or K3,3. It is made shorter: of K5 each path is
 // replaced by a shortest one that avoids all others; of K3,3 a path is also replaced by one between other places, so that it is
-// a subdivision again. Last, the same is tried among its edges and those of a breadth-first tree from one of its branch vertices.
+// a subdivision again. Last, few edges are looked for once more, among its edges, those of a breadth-first tree from one of its
+// branch vertices, and the first ones off this tree.
 //
 // K5 and K3,3 themselves are recognized without a test, and in a small graph all begins with the paths.
 //

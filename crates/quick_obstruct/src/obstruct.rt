@@ -2,8 +2,7 @@
 
 use crate::chart::needed_segments;
 use crate::itself::itself;
-use crate::needed::few_edges;
-use crate::prefixes::Prefixes;
+use crate::needed::{few_edges, few_edges_near};
 use crate::reading::{Proposal, read};
 use crate::shortening::shorten;
 use crate::shrinking::shrunk_edges;
@@ -13,13 +12,8 @@ use multigraph::Graph;
 use quick_rotation::{Bins, EdgeEnds, PartTest, numbers_below};
 use std::alloc::{AllocError, Global};
 
-// How often the search begins again from a branch vertex of what it found, with how many edges there, and how many other edges are
-// few.
+// How often the search begins again from a branch vertex of what it found.
 const AGAIN: usize = 3;
-
-const NEAR: u32 = 40;
-
-const FEW: usize = 400;
 
 // A subdivision of more edges is long.
 const LONG: usize = 600;
@@ -33,8 +27,6 @@ const LEAST: usize = 10;
 const STEPS: u64 = 40;
 
 const STEPS_SMALL: u64 = 400;
-
-const STEPS_AGAIN: u64 = 4;
 
 // What may be a subdivision among these edges, which are not planar.
 fn find_among(
@@ -74,17 +66,51 @@ fn find_near(
     found: &Proposal,
     root: u32,
 ) -> Result<Option<Proposal>, AllocError> {
-    let mut prefixes = Prefixes::from(alloc, list, around, root)?;
-    let off = prefixes.off_tree(&found.paths)?;
-    if off.len() > FEW {
+    let Some(edges) = few_edges_near(alloc, list, around, test, &found.paths, root)? else {
         return Ok(None);
-    }
-    let edges = prefixes.prefix(NEAR, &off)?;
-    let Some(mut other) = find_among(alloc, list, test, &edges, STEPS_AGAIN)? else {
+    };
+    let Some(mut other) = find_among(alloc, list, test, &edges, STEPS)? else {
         return Ok(None);
     };
     tighten(alloc, list, around, &mut other)?;
     Ok(Some(other))
+}
+
+// The branch vertex with the most darts.
+fn widest(around: &Bins, found: &Proposal) -> u32 {
+    let mut widest = found.branch_vertex(0);
+    for vertex in &found.branch {
+        if around.bin(*vertex).len() > around.bin(widest).len() {
+            widest = *vertex;
+        }
+    }
+    widest
+}
+
+// What may be a subdivision, found from the root on by few edges.
+fn find_from(
+    alloc: Global,
+    list: &EdgeEnds,
+    around: &Bins,
+    test: &mut PartTest,
+    root: u32,
+) -> Result<Option<Proposal>, AllocError> {
+    let Some(edges) = few_edges(alloc, list, around, test, root)? else {
+        return Ok(None);
+    };
+    let Some(mut found) = find_among(alloc, list, test, &edges, STEPS)? else {
+        return Ok(None);
+    };
+    tighten(alloc, list, around, &mut found)?;
+    Ok(Some(found))
+}
+
+// The shorter of one and another, if there is another.
+fn the_shorter(one: Proposal, another: Option<Proposal>) -> Proposal {
+    match another {
+        Some(other) if other.edge_count() < one.edge_count() => other,
+        _ => one,
+    }
 }
 
 // A shorter subdivision near a branch vertex, or the same.
@@ -96,16 +122,17 @@ fn find_shorter(
     found: Proposal,
 ) -> Result<Proposal, AllocError> {
     let mut best = found;
+    if best.edge_count() > LONG {
+        let root = widest(around, &best);
+        best = the_shorter(best, find_from(alloc, list, around, test, root)?);
+    }
     for k in 0..AGAIN {
         if best.edge_count() <= LEAST || best.edge_count() > LONG {
             break;
         }
         let root = best.branch_vertex(k);
-        if let Some(other) = find_near(alloc, list, around, test, &best, root)? {
-            if other.edge_count() < best.edge_count() {
-                best = other;
-            }
-        }
+        let other = find_near(alloc, list, around, test, &best, root)?;
+        best = the_shorter(best, other);
     }
     Ok(best)
 }

@@ -2,7 +2,7 @@
 // for the least prefix that is not planar.
 
 use crate::forest::{SearchTree, breadth_first};
-use quick_rotation::access::{NONE, at, number, put};
+use quick_rotation::access::{NONE, at, is_marked, mark, number, put};
 use quick_rotation::{Bins, EdgeEnds, PartTest};
 use std::alloc::{AllocError, Global};
 
@@ -10,7 +10,7 @@ use std::alloc::{AllocError, Global};
 const ALWAYS_PLANAR: usize = 3;
 
 // How many edges off a tree are many.
-const MANY: u32 = 100;
+const MANY: u32 = 700;
 
 // A prefix as it is collected: its edges, and its number at each vertex that it reaches. The next one takes its memory.
 #[derive(Drop)]
@@ -18,6 +18,22 @@ struct Prefix {
     edges: Vec<u32>,
     number: u32,
     reached: Vec<u32>,
+}
+
+// Marks the edges.
+fn mark_all(marks: &mut [bool], edges: &[u32]) {
+    for edge in edges {
+        mark(marks, *edge);
+    }
+}
+
+// Marks on the edges of the paths, among this many edges.
+fn marks_of(alloc: Global, edges: u32, paths: &[Vec<u32>]) -> Result<Vec<bool>, AllocError> {
+    let mut marks = vec![in alloc; false; edges as usize]?;
+    for path in paths {
+        mark_all(&mut marks, path);
+    }
+    Ok(marks)
 }
 
 impl Prefix {
@@ -131,26 +147,18 @@ impl<'a> Prefixes<'a> {
         Vec::from_slice(self.alloc, &self.prefix.edges)
     }
 
-    // Those of the edges of the paths that are not in the tree.
-    pub(crate) fn off_tree(&self, paths: &[Vec<u32>]) -> Result<Vec<u32>, AllocError> {
-        let mut off = Vec::new(self.alloc);
-        for path in paths {
-            self.put_off_tree(path, &mut off)?;
-        }
-        Ok(off)
-    }
-
-    // Appends those of the edges that are not in the tree.
-    fn put_off_tree(&self, edges: &[u32], off: &mut Vec<u32>) -> Result<(), AllocError> {
-        for edge in edges {
-            let dart = edge.saturating_mul(2);
-            let up = at(&self.tree.up, self.list.tail(dart));
-            let down = at(&self.tree.up, self.list.head(dart));
-            if up / 2 != *edge && down / 2 != *edge {
-                off.push(*edge)?;
+    // Of the edges off the tree keeps the first ones, this many, and those of the paths. Returns how many are left.
+    pub(crate) fn keep_near(&mut self, near: u32, paths: &[Vec<u32>]) -> Result<u32, AllocError> {
+        let alloc = self.alloc;
+        let marks = marks_of(alloc, self.list.edge_count(), paths)?;
+        let mut kept = Vec::new(alloc);
+        for (k, edge) in self.tree.others.iter().enumerate() {
+            if number(k) < near || is_marked(&marks, *edge) {
+                kept.push(*edge)?;
             }
         }
-        Ok(())
+        self.tree.others = kept;
+        Ok(self.count())
     }
 
     // Whether this prefix is planar.
