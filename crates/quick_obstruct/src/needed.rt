@@ -1,28 +1,37 @@
 // Few edges that are not planar: of the edges off a tree those are kept without which the rest would be planar.
 
 use crate::prefixes::Prefixes;
-use quick_rotation::{EdgeEnds, PartTest, numbers_below};
+use quick_rotation::{Bins, EdgeEnds, PartTest};
 use std::alloc::{AllocError, Global};
 
 // How often a search moves to where an obstruction was found, and how often it may examine each edge.
 const MOVES: u32 = 3;
 
-const STEPS: u64 = 20;
+const STEPS: u64 = 6;
 
-// The prefixes from a root that is near the end of the least one, and the count of that one.
+// With how many edges off a tree a search begins again, and how many other ones are few.
+const NEAR: u32 = 40;
+
+const FEW: u32 = 400;
+
+// The prefixes from a root that is near the end of the least one, and the count of that one; `None` where it has too many edges.
 fn prefixes_near<'a>(
     alloc: Global,
     list: &'a EdgeEnds,
+    around: &Bins,
     test: &mut PartTest,
     root: u32,
-) -> Result<(Prefixes<'a>, u32), AllocError> {
-    let edges = numbers_below(alloc, list.edge_count())?;
-    let mut prefixes = Prefixes::from(alloc, list, &edges, root)?;
-    let mut count = prefixes.first(test)?;
+) -> Result<Option<(Prefixes<'a>, u32)>, AllocError> {
+    let mut prefixes = Prefixes::from(alloc, list, around, root)?;
+    let Some(mut count) = prefixes.first(test)? else {
+        return Ok(None);
+    };
     for _ in 0..MOVES {
         let root = list.tail(prefixes.last_edge(count).saturating_mul(2));
-        let mut others = Prefixes::from(alloc, list, &edges, root)?;
-        let fewer = others.first(test)?;
+        let mut others = Prefixes::from(alloc, list, around, root)?;
+        let Some(fewer) = others.first(test)? else {
+            break;
+        };
         if fewer >= count {
             break;
         }
@@ -33,21 +42,20 @@ fn prefixes_near<'a>(
             break;
         }
     }
-    Ok((prefixes, count))
+    Ok(Some((prefixes, count)))
 }
 
-// Few edges of a connected list that are not planar, where the list is not; from the root at first. `None` where the search gives
-// up.
-pub(crate) fn few_edges(
+// The edges of the least prefix that are needed, and the paths up from them, where the prefix of this many is the least. `None` where
+// the search gives up.
+pub(crate) fn needed_of(
     alloc: Global,
-    list: &EdgeEnds,
     test: &mut PartTest,
-    root: u32,
+    prefixes: &mut Prefixes<'_>,
+    count: u32,
+    budget: u64,
 ) -> Result<Option<Vec<u32>>, AllocError> {
-    let (mut prefixes, count) = prefixes_near(alloc, list, test, root)?;
     let mut needed = vec![in alloc; prefixes.last_edge(count); 1]?;
     let mut rest = count.saturating_sub(1);
-    let budget = STEPS.saturating_mul(u64::from(list.edge_count()));
     prefixes.spent = 0;
     for _ in 0..prefixes.count() {
         if rest == 0 || !prefixes.is_planar(test, 0, &needed)? {
@@ -61,4 +69,40 @@ pub(crate) fn few_edges(
         rest = count.saturating_sub(1);
     }
     Ok(None)
+}
+
+// Few edges of a connected list that are not planar, where the list is not; from the root at first. `None` where the search gives
+// up.
+pub(crate) fn few_edges(
+    alloc: Global,
+    list: &EdgeEnds,
+    around: &Bins,
+    test: &mut PartTest,
+    root: u32,
+) -> Result<Option<Vec<u32>>, AllocError> {
+    let Some((mut prefixes, count)) = prefixes_near(alloc, list, around, test, root)? else {
+        return Ok(None);
+    };
+    let budget = STEPS.saturating_mul(u64::from(list.edge_count()));
+    needed_of(alloc, test, &mut prefixes, count, budget)
+}
+
+// Few edges that are not planar among these, a breadth-first tree from the root, and the first edges off it, if few of the edges are
+// off the tree.
+pub(crate) fn few_edges_near(
+    alloc: Global,
+    list: &EdgeEnds,
+    around: &Bins,
+    test: &mut PartTest,
+    paths: &[Vec<u32>],
+    root: u32,
+) -> Result<Option<Vec<u32>>, AllocError> {
+    let mut prefixes = Prefixes::from(alloc, list, around, root)?;
+    if prefixes.keep_near(NEAR, paths)? > FEW {
+        return Ok(None);
+    }
+    let all = prefixes.count();
+    let count = prefixes.last(test, all, &[])?;
+    let budget = STEPS.saturating_mul(u64::from(list.edge_count()));
+    needed_of(alloc, test, &mut prefixes, count, budget)
 }

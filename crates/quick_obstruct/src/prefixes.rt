@@ -2,12 +2,15 @@
 // for the least prefix that is not planar.
 
 use crate::forest::{SearchTree, breadth_first};
-use quick_rotation::access::{NONE, at, number, put};
-use quick_rotation::{EdgeEnds, PartTest};
+use quick_rotation::access::{NONE, at, is_marked, mark, number, put};
+use quick_rotation::{Bins, EdgeEnds, PartTest};
 use std::alloc::{AllocError, Global};
 
 // How many edges off a tree are planar with any part of it: a subdivision of K3,3 has four.
 const ALWAYS_PLANAR: usize = 3;
+
+// How many edges off a tree are many.
+const MANY: u32 = 700;
 
 // A prefix as it is collected: its edges, and its number at each vertex that it reaches. The next one takes its memory.
 #[derive(Drop)]
@@ -15,6 +18,22 @@ struct Prefix {
     edges: Vec<u32>,
     number: u32,
     reached: Vec<u32>,
+}
+
+// Marks the edges.
+fn mark_all(marks: &mut [bool], edges: &[u32]) {
+    for edge in edges {
+        mark(marks, *edge);
+    }
+}
+
+// Marks on the edges of the paths, among this many edges.
+fn marks_of(alloc: Global, edges: u32, paths: &[Vec<u32>]) -> Result<Vec<bool>, AllocError> {
+    let mut marks = vec![in alloc; false; edges as usize]?;
+    for path in paths {
+        mark_all(&mut marks, path);
+    }
+    Ok(marks)
 }
 
 impl Prefix {
@@ -81,16 +100,15 @@ pub(crate) struct Prefixes<'a> {
 }
 
 impl<'a> Prefixes<'a> {
-    // The prefixes of these edges, from the root on along a breadth-first tree.
+    // The prefixes of the edges of these darts, from the root on along a breadth-first tree.
     pub(crate) fn from(
         alloc: Global,
         list: &'a EdgeEnds,
-        edges: &[u32],
+        around: &Bins,
         root: u32,
     ) -> Result<Prefixes<'a>, AllocError> {
-        let around = list.darts_of(alloc, edges)?;
         let marks = vec![in alloc; false; list.vertices as usize]?;
-        let tree = breadth_first(alloc, list, &around, root, NONE, marks)?;
+        let tree = breadth_first(alloc, list, around, root, NONE, marks)?;
         let prefix = Prefix {
             edges: Vec::new(alloc),
             number: 0,
@@ -127,6 +145,20 @@ impl<'a> Prefixes<'a> {
     pub(crate) fn prefix(&mut self, count: u32, needed: &[u32]) -> Result<Vec<u32>, AllocError> {
         self.collect(count, needed)?;
         Vec::from_slice(self.alloc, &self.prefix.edges)
+    }
+
+    // Of the edges off the tree keeps the first ones, this many, and those of the paths. Returns how many are left.
+    pub(crate) fn keep_near(&mut self, near: u32, paths: &[Vec<u32>]) -> Result<u32, AllocError> {
+        let alloc = self.alloc;
+        let marks = marks_of(alloc, self.list.edge_count(), paths)?;
+        let mut kept = Vec::new(alloc);
+        for (k, edge) in self.tree.others.iter().enumerate() {
+            if number(k) < near || is_marked(&marks, *edge) {
+                kept.push(*edge)?;
+            }
+        }
+        self.tree.others = kept;
+        Ok(self.count())
     }
 
     // Whether this prefix is planar.
@@ -183,8 +215,9 @@ impl<'a> Prefixes<'a> {
         self.least(test, 0, below, needed)
     }
 
-    // The least count for which the prefix is not planar, or that of all edges if each prefix is planar.
-    pub(crate) fn first(&mut self, test: &mut PartTest) -> Result<u32, AllocError> {
+    // The least count for which the prefix is not planar; `None` where many edges are and more than a quarter of all.
+    pub(crate) fn first(&mut self, test: &mut PartTest) -> Result<Option<u32>, AllocError> {
+        let most = (self.count() / 4).max(MANY);
         let mut low = 0;
         let mut high: u32 = 8;
         for _ in 0..32 {
@@ -192,12 +225,15 @@ impl<'a> Prefixes<'a> {
                 high = self.count();
                 break;
             }
+            if high > most {
+                return Ok(None);
+            }
             if !self.is_planar(test, high, &[])? {
                 break;
             }
             low = high;
             high = high.saturating_mul(2);
         }
-        self.least(test, low, high, &[])
+        Ok(Some(self.least(test, low, high, &[])?))
     }
 }

@@ -21,6 +21,14 @@ impl Proposal {
         (at(&self.branch, number(from)), at(&self.branch, number(to)))
     }
 
+    // The number of edges of path k.
+    pub(crate) fn length(&self, k: usize) -> usize {
+        match self.paths.get(k) {
+            None => 0,
+            Some(path) => path.len(),
+        }
+    }
+
     // Branch vertex k.
     pub(crate) fn branch_vertex(&self, k: usize) -> u32 {
         at(&self.branch, number(k))

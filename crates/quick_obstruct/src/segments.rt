@@ -1,12 +1,8 @@
-// Segments: the paths between vertices of degree three or more through vertices of degree two; and which of them are needed for
-// edges not to be planar.
+// Segments: the paths between vertices of degree three or more through vertices of degree two.
 
-use quick_rotation::access::{NONE, is_marked, mark, unmark};
-use quick_rotation::{Bins, EdgeEnds, PartTest};
+use quick_rotation::access::NONE;
+use quick_rotation::{Bins, EdgeEnds};
 use std::alloc::{AllocError, Global};
-
-// How often the tests may examine each edge.
-const STEPS: u64 = 40;
 
 // A segment from one end to the other, as a list of edges.
 #[derive(Drop)]
@@ -53,7 +49,8 @@ fn segment_from(
     })
 }
 
-// The segments of these edges, each once from either end.
+// The segments of these edges between two different vertices, each once from either end. No other edges are needed for edges not
+// to be planar.
 pub(crate) fn segments(
     alloc: Global,
     list: &EdgeEnds,
@@ -62,100 +59,12 @@ pub(crate) fn segments(
     let around = list.darts_of(alloc, edges)?;
     let mut found = Vec::new(alloc);
     for dart in &around.items {
-        if around.bin(list.tail(*dart)).len() >= 3 {
-            found.push(segment_from(alloc, list, &around, *dart)?)?;
+        if around.bin(list.tail(*dart)).len() < 3 {
+            continue;
         }
-    }
-    Ok(found)
-}
-
-// Whether one of the edges has a mark.
-fn has_mark(marks: &[bool], edges: &[u32]) -> bool {
-    for edge in edges {
-        if is_marked(marks, *edge) {
-            return true;
-        }
-    }
-    false
-}
-
-// Marks the edges.
-fn mark_all(marks: &mut [bool], edges: &[u32]) {
-    for edge in edges {
-        mark(marks, *edge);
-    }
-}
-
-// Takes the marks from the edges.
-fn unmark_all(marks: &mut [bool], edges: &[u32]) {
-    for edge in edges {
-        unmark(marks, *edge);
-    }
-}
-
-// The longest segment without a marked edge.
-fn longest<'a>(segments: &'a [Segment], marks: &[bool]) -> Option<&'a Segment> {
-    let mut found = None;
-    let mut length = 0;
-    for segment in segments {
-        if segment.edges.len() > length && !has_mark(marks, &segment.edges) {
-            length = segment.edges.len();
-            found = Some(segment);
-        }
-    }
-    found
-}
-
-// Makes `rest` the list of the edges without those of the segment. No edge is marked before and after.
-fn leave_out(
-    marks: &mut [bool],
-    edges: &[u32],
-    segment: &[u32],
-    rest: &mut Vec<u32>,
-) -> Result<(), AllocError> {
-    mark_all(marks, segment);
-    rest.clear();
-    for edge in edges {
-        if !is_marked(marks, *edge) {
-            rest.push(*edge)?;
-        }
-    }
-    unmark_all(marks, segment);
-    Ok(())
-}
-
-// What it costs to test the rest of a list of this many vertices.
-fn cost(vertices: u32, rest: &[u32]) -> u64 {
-    u64::from(vertices / 8).saturating_add(rest.len() as u64)
-}
-
-// The segments that are left when each that is not needed is dropped, the longest first, as long as the budget lasts.
-pub(crate) fn needed_segments(
-    alloc: Global,
-    list: &EdgeEnds,
-    test: &mut PartTest,
-    mut edges: Vec<u32>,
-) -> Result<Vec<Segment>, AllocError> {
-    let mut needed = vec![in alloc; false; list.edge_count() as usize]?;
-    let mut left_out = vec![in alloc; false; list.edge_count() as usize]?;
-    let mut rest = Vec::new(alloc);
-    let mut found = segments(alloc, list, &edges)?;
-    let mut budget = STEPS.saturating_mul(list.edge_count() as u64);
-    for _ in 0..list.edge_count() {
-        let Some(segment) = longest(&found, &needed) else {
-            break;
-        };
-        if budget == 0 {
-            break;
-        }
-        leave_out(&mut left_out, &edges, &segment.edges, &mut rest)?;
-        budget = budget.saturating_sub(cost(list.vertices, &rest));
-        if test.is_planar(list, &rest)? {
-            mark_all(&mut needed, &segment.edges);
-        } else {
-            edges.clear();
-            edges.extend_from_slice(&rest)?;
-            found = segments(alloc, list, &edges)?;
+        let segment = segment_from(alloc, list, &around, *dart)?;
+        if segment.from != segment.to && around.bin(segment.to).len() >= 3 {
+            found.push(segment)?;
         }
     }
     Ok(found)

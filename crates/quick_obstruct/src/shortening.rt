@@ -3,7 +3,7 @@
 use crate::forest::{breadth_first, path_up};
 use crate::reading::Proposal;
 use quick_rotation::access::mark;
-use quick_rotation::{Bins, EdgeEnds, numbers_below};
+use quick_rotation::{Bins, EdgeEnds};
 use std::alloc::{AllocError, Global};
 
 // How often all paths are tried.
@@ -54,6 +54,9 @@ fn shorten_once(
 ) -> Result<bool, AllocError> {
     let mut shorter = false;
     for k in 0..proposal.paths.len() {
+        if proposal.length(k) <= 1 {
+            continue;
+        }
         let path = shortest(alloc, list, around, proposal, k)?;
         if let Some(old) = proposal.paths.get_mut(k) {
             if !path.is_empty() && path.len() < old.len() {
@@ -69,12 +72,11 @@ fn shorten_once(
 pub(crate) fn shorten(
     alloc: Global,
     list: &EdgeEnds,
+    around: &Bins,
     proposal: &mut Proposal,
 ) -> Result<(), AllocError> {
-    let edges = numbers_below(alloc, list.edge_count())?;
-    let around = list.darts_of(alloc, &edges)?;
     for _ in 0..ROUNDS {
-        if !shorten_once(alloc, list, &around, proposal)? {
+        if !shorten_once(alloc, list, around, proposal)? {
             break;
         }
     }

@@ -8,12 +8,14 @@ use quick_rotation::{Bins, EdgeEnds};
 use std::alloc::{AllocError, Global};
 
 // How many vertices a search may reach.
-const REACH: usize = 80;
+const REACH: usize = 16;
 
 // A search beside an edge: what it has reached and what it is to reach is marked by the number of the edge.
 #[derive(Drop)]
-struct Beside {
+pub(crate) struct Beside {
     edge: u32,
+    first: u32,
+    second: u32,
     reached: Vec<u32>,
     wanted: Vec<u32>,
     left: u32,
@@ -73,8 +75,38 @@ impl Beside {
         Ok(())
     }
 
+    // Whether one of the heads of these darts is reached, of the first few.
+    fn is_beside(&self, list: &EdgeEnds, darts: &[u32]) -> bool {
+        for dart in darts.iter().take(REACH) {
+            let vertex = list.head(*dart);
+            if at(&self.reached, vertex) == self.edge
+                && vertex != self.first
+                && vertex != self.second
+            {
+                return true;
+            }
+        }
+        false
+    }
+
+    // The heads of these darts that are to be reached and are next to one that is reached, are reached.
+    fn meet(&mut self, list: &EdgeEnds, around: &Bins, darts: &[u32]) -> Result<(), AllocError> {
+        for dart in darts {
+            let vertex = list.head(*dart);
+            if at(&self.reached, vertex) != self.edge && self.is_beside(list, around.bin(vertex)) {
+                self.reach(vertex)?;
+            }
+        }
+        Ok(())
+    }
+
     // Whether the edge is thin.
-    fn is_thin(&mut self, list: &EdgeEnds, around: &Bins, edge: u32) -> Result<bool, AllocError> {
+    pub(crate) fn is_thin(
+        &mut self,
+        list: &EdgeEnds,
+        around: &Bins,
+        edge: u32,
+    ) -> Result<bool, AllocError> {
         let dart = edge.saturating_mul(2);
         let (first, second) = (list.tail(dart), list.head(dart));
         let at_first = around.bin(first);
@@ -83,32 +115,30 @@ impl Beside {
             return Ok(true);
         }
         self.edge = edge;
+        (self.first, self.second) = (first, second);
         self.left = 0;
         put(&mut self.reached, first, edge);
         put(&mut self.reached, second, edge);
         let some = self.want(list, at_first, NONE);
         let some = self.want(list, at_second, some);
         self.search(list, around, some)?;
+        if self.left > 0 {
+            self.meet(list, around, at_first)?;
+            self.meet(list, around, at_second)?;
+        }
         Ok(self.left > 0)
     }
 }
 
-// For each edge of the list whether it is thin.
-pub(crate) fn thin_edges(
-    alloc: Global,
-    list: &EdgeEnds,
-    around: &Bins,
-) -> Result<Vec<bool>, AllocError> {
-    let mut beside = Beside {
+// No search yet.
+pub(crate) fn new_search(alloc: Global, list: &EdgeEnds) -> Result<Beside, AllocError> {
+    Ok(Beside {
         edge: NONE,
+        first: NONE,
+        second: NONE,
         reached: vec![in alloc; NONE; list.vertices as usize]?,
         wanted: vec![in alloc; NONE; list.vertices as usize]?,
         left: 0,
         queue: Vec::new(alloc),
-    };
-    let mut thin = Vec::with_capacity(alloc, list.edge_count() as usize)?;
-    for edge in 0..list.edge_count() {
-        thin.push(beside.is_thin(list, around, edge)?)?;
-    }
-    Ok(thin)
+    })
 }
