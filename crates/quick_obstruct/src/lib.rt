@@ -1,13 +1,6 @@
 // What may be a subdivision of K5 or K3,3 in a graph, found by dropping edges as long as the rest is not planar.
 //
-// Whether the rest is planar is decided by the left-right method. First the edges off a breadth-first tree: the least prefix of
-// them is found that is not planar with the paths of the tree up from their ends, and of its edges those are kept without which
-// the rest would be planar, each found by bisection. Few are left, mostly four to seven.
-//
-// Where the least prefix has many edges and more than a quarter of all, or where the edges off the tree are needed one by one, minors are
-// looked for: edges are contracted or dropped as long as the rest is not planar, down to some ten edges. First all edges of a forest
-// are contracted that are not in one of some windows; in a long and narrow graph this leaves a small one. Then pieces of the rest
-// are tried. What was contracted is held together by paths.
+// Whether the rest is planar is decided by the left-right method. First few edges are found that are not planar (quick_minors).
 //
 // Then the paths between vertices of degree three or more are dropped, as long as the rest is not planar; the tests see each as one
 // edge. By Kuratowski (1930) what is left are the paths of a subdivision of K5 or K3,3. It is made shorter: of K5 each path is
@@ -21,20 +14,13 @@
 // proved. The tests share their memory.
 #![tactic(auto)]
 
-mod along;
 mod chart;
-mod forest;
 mod itself;
-mod minors;
-mod needed;
 mod obstruct;
-mod prefixes;
 mod reading;
 mod segments;
 mod shortening;
-mod shrinking;
 mod sliding;
 mod tetrahedron;
-mod thin;
 
 pub use obstruct::propose_subdivision;

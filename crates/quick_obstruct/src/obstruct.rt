@@ -2,13 +2,12 @@
 
 use crate::chart::needed_segments;
 use crate::itself::itself;
-use crate::needed::{few_edges, few_edges_near};
 use crate::reading::{Proposal, read};
 use crate::shortening::shorten;
-use crate::shrinking::shrunk_edges;
 use crate::sliding::slide;
 use kuratowski::{Pattern, Subdivision};
 use multigraph::Graph;
+use quick_minors::{few_edges, few_edges_near, shrunk_edges};
 use quick_rotation::{Bins, EdgeEnds, PartTest, numbers_below};
 use std::alloc::{AllocError, Global};
 

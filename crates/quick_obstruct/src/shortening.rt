@@ -1,7 +1,7 @@
 // Shorter paths for a subdivision.
 
-use crate::forest::{breadth_first, path_up};
 use crate::reading::Proposal;
+use quick_minors::{breadth_first, path_up};
 use quick_rotation::access::mark;
 use quick_rotation::{Bins, EdgeEnds};
 use std::alloc::{AllocError, Global};

@@ -4,13 +4,13 @@ use quick_rotation::access::{NONE, at, is_marked, mark, number, put};
 use quick_rotation::{Bins, EdgeEnds};
 use std::alloc::{AllocError, Global};
 
-// A tree of all that is reached from a root.
+/// A tree of all that is reached from a root.
 #[derive(Drop)]
-pub(crate) struct SearchTree {
-    // Of each vertex the dart towards the root; `NONE` at the root and where nothing is reached.
-    pub(crate) up: Vec<u32>,
-    // The other edges that were examined, in this order.
-    pub(crate) others: Vec<u32>,
+pub struct SearchTree {
+    /// Of each vertex the dart towards the root; `NONE` at the root and where nothing is reached.
+    pub up: Vec<u32>,
+    /// The other edges that were examined, in this order.
+    pub others: Vec<u32>,
 }
 
 // What a search knows so far: the vertices in the order in which they are reached, and marks on vertices and edges.
@@ -70,9 +70,9 @@ fn search_from(
     Ok(search)
 }
 
-// The tree of what is reached from the root by these darts, past no vertex that is marked, breadth first, until vertex `goal` is
-// reached; of all, where it is `NONE`.
-pub(crate) fn breadth_first(
+/// The tree of what is reached from the root by these darts, past no vertex that is marked, breadth first, until vertex `goal` is
+/// reached; of all, where it is `NONE`. Fails only if memory runs out.
+pub fn breadth_first(
     alloc: Global,
     list: &EdgeEnds,
     around: &Bins,
@@ -91,8 +91,8 @@ pub(crate) fn breadth_first(
     Ok(search.tree)
 }
 
-// The edges from the vertex up to the root.
-pub(crate) fn path_up(
+/// The edges from the vertex up to the root. Fails only if memory runs out.
+pub fn path_up(
     alloc: Global,
     list: &EdgeEnds,
     tree: &SearchTree,

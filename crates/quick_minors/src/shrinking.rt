@@ -215,8 +215,9 @@ fn shrink(alloc: Global, list: &EdgeEnds) -> Result<Minor, AllocError> {
     Ok(shrinking.minor)
 }
 
-// Edges that are not planar, where the list is not: those of a least minor, with the paths that hold it together.
-pub(crate) fn shrunk_edges(alloc: Global, list: &EdgeEnds) -> Result<Vec<u32>, AllocError> {
+/// Edges that are not planar, where the list is not: those of a least minor, with the paths that hold it together. Fails only if memory
+/// runs out.
+pub fn shrunk_edges(alloc: Global, list: &EdgeEnds) -> Result<Vec<u32>, AllocError> {
     let Minor {
         origin: mut edges,
         inner,

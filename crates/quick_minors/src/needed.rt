@@ -47,7 +47,7 @@ fn prefixes_near<'a>(
 
 // The edges of the least prefix that are needed, and the paths up from them, where the prefix of this many is the least. `None` where
 // the search gives up.
-pub(crate) fn needed_of(
+fn needed_of(
     alloc: Global,
     test: &mut PartTest,
     prefixes: &mut Prefixes<'_>,
@@ -71,9 +71,9 @@ pub(crate) fn needed_of(
     Ok(None)
 }
 
-// Few edges of a connected list that are not planar, where the list is not; from the root at first. `None` where the search gives
-// up.
-pub(crate) fn few_edges(
+/// Few edges of a connected list that are not planar, where the list is not; from the root at first. `None` where the search gives
+/// up. Fails only if memory runs out.
+pub fn few_edges(
     alloc: Global,
     list: &EdgeEnds,
     around: &Bins,
@@ -87,9 +87,9 @@ pub(crate) fn few_edges(
     needed_of(alloc, test, &mut prefixes, count, budget)
 }
 
-// Few edges that are not planar among these, a breadth-first tree from the root, and the first edges off it, if few of the edges are
-// off the tree.
-pub(crate) fn few_edges_near(
+/// Few edges that are not planar among these, a breadth-first tree from the root, and the first edges off it, if few of the edges are
+/// off the tree. Fails only if memory runs out.
+pub fn few_edges_near(
     alloc: Global,
     list: &EdgeEnds,
     around: &Bins,
