@@ -7,8 +7,8 @@ use Rattle.spqr_session.proofs.Boards.{board-on}
 use Rattle.spqr_session.proofs.MarkedLists.{marked-after, marked-before}
 use Rattle.spqr_session.proofs.board.Board.redo.Goals as goal
 
-pub invariant_of-self : goal.invariant_of-self
-invariant_of-self c =
+pub invariant_of-self-in-Ok : goal.invariant_of-self-in-Ok
+invariant_of-self-in-Ok c =
     let s = c.self.inside in
     let step = c.in-Ok.step.now in
     let passed : WentOn s.log step c.redo.follows.lender-at-none = rw c.in-Ok.is at c.redo.follows.holds-at-none in
