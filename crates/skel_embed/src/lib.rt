@@ -22,8 +22,9 @@
 //   ExchangeSteps  cut-groups, put-both: two groups exchanged
 //   BondMoves      least-groups, exchange-leads: the groups at both poles in the order of the choice
 //   KeptLists      turned-round, exchanged-least: choices changed in place
-//   Flat           flat-view, piece-is, flat-set: choices kept as one list
-//   RunKeys        choice-from: a choice read off a cyclic order
+//   Flat           flat-view, piece-of, lent-put: choices kept as one list
+//   KeptKeys       first-kept, other-state: the kept choices of the first rotation system, and of another one
+//   RunKeys        choice-from, choice-long: a choice read off a cyclic order, and its length
 //   States         state-moved, state-mirrored: the invariant after a move
 #![tactic(auto)]
 
