@@ -208,8 +208,11 @@ module _ (g : Multigraph) (nodes : List Node) (b : IsBlockTree g nodes) (r q : L
 
   -- keys in the cyclic order of the choice, from the first of another choice on
   begun : (met : List ℕ) → choice nodes r k ≡ from_least met → (0 < length old) × (is_member (first_or 0 old) met ≡ true) × (turned met (first_or 0 old) ≡ choice nodes r k)
-  begun met e = (some, same (first_or 0 old) ∙ head-member old some,
-      ap (turned met) (sym (least-same met old same ∙ sym (from_least-first_or old (first_or 0 old) (head-member old some)) ∙ ap (first_or 0) written)) ∙ sym e)
+  begun met e = (
+    some,
+    same (first_or 0 old) ∙ head-member old some,
+    ap (turned met) (sym (least-same met old same ∙ sym (from_least-first_or old (first_or 0 old) (head-member old some)) ∙ ap (first_or 0) written)) ∙ sym e,
+  )
     where
       same : (x : ℕ) → is_member x met ≡ is_member x old
       same x = sym (from_least-member met x) ∙ ap (is_member x) (sym e) ∙ choice-member g nodes b k l kind is which r p x ∙ sym (ap (is_member x) o ∙ choice-member g nodes b k l kind is which q s x)

@@ -174,7 +174,11 @@ fn meet_all(met: &mut [bool], twice: &mut [bool], part: &Part) {
 }
 
 // Marks at those of `n` vertices that are in two blocks or more; nothing is promised of these.
-fn in_two_blocks(alloc: Global, n: usize, blocks: &[EmbeddedBlock]) -> Result<Vec<bool>, AllocError> {
+fn in_two_blocks(
+    alloc: Global,
+    n: usize,
+    blocks: &[EmbeddedBlock],
+) -> Result<Vec<bool>, AllocError> {
     let mut met = vec![in alloc; false; n]?;
     let mut twice = vec![in alloc; false; n]?;
     for block in blocks {

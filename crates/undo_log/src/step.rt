@@ -14,7 +14,10 @@ pub enum Step {
         cuts: CutChanges,
     },
     /// The mirror image of a block, which leads back too, and what changed at cut vertices.
-    Mirror { block: u32, cuts: CutChanges },
+    Mirror {
+        block: u32,
+        cuts: CutChanges,
+    },
     /// A node of a block locked or not before, and after.
     Lock {
         block: u32,

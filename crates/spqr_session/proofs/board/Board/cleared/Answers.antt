@@ -11,4 +11,4 @@ returns c =
     let b = c.args.b in
     let within = subst (λ (v : BoardView). c.args.b < length v.views) (sym c.self.view_is) c.requires in
     ok-map c.cleared.result _ _ (λ cuts clears. subst (λ (v : BoardView). Clears (view_at v.views b).tree.part.vertices v.lists cuts) c.self.view_is
-        (clears-block s.blocks.items s.lists s.marked b cuts c.in_block.result.now c.self.invariant.marks within c.in_block.ensures clears)) c.cleared.ensures
+    (clears-block s.blocks.items s.lists s.marked b cuts c.in_block.result.now c.self.invariant.marks within c.in_block.ensures clears)) c.cleared.ensures
