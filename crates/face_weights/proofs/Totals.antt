@@ -1,5 +1,5 @@
 -- Sums of the weights of the darts that have one number.
-use Rattle.std.proofs.Common.{◌≡◌, ◌≢◌, ℕ, zero, suc, add-one, ◌+◌, ◌*◌, ◌/◌, ◌<◌, ◌≤◌, ◌==◌, Bool, cond, inl, inr, List, length, slice_set, refl, sym, ap, ◌∙◌, subst, arith, eq-eqb}
+use Rattle.std.proofs.Common.{◌≡◌, ℕ, zero, suc, add-one, ◌+◌, ◌*◌, ◌/◌, ◌<◌, ◌≤◌, ◌==◌, Bool, cond, inl, inr, List, length, slice_set, refl, sym, ap, ◌∙◌, subst, arith, eq-eqb}
 use Rattle.std.proofs.lemmas.Bool.{cases_Bool, cases_eq, ne_eqb}
 use Rattle.std.proofs.lemmas.List.{get_or-set_same, get_or-set_other}
 use Rattle.permutations.specs.Count.{sum_below}
@@ -64,17 +64,6 @@ totals-more numbers weights totals d l h t k = elim (cases_eq t (number_at numbe
       get_or-set_other totals (number_at numbers d) t (weight_in totals (number_at numbers d) + weight_in weights (d / 2)) 0 n in
       omega (arith, new, one, h t k, sum-more d (share numbers weights t))
 ]
-
--- one dart more, which has the number or another
-pub sum-same : (numbers weights : List ℕ) (t d : ℕ) → number_at numbers d ≡ t → sum_below (d + 1) (share numbers weights t) ≡ sum_below d (share numbers weights t) + weight_in weights (d / 2)
-sum-same numbers weights t d e =
-    let one : share numbers weights t d ≡ weight_in weights (d / 2) = ap (λ (b : Bool). cond b (weight_in weights (d / 2)) 0) (eq-eqb t (number_at numbers d) (sym e)) in
-    omega (arith, one, sum-more d (share numbers weights t))
-
-pub sum-other : (numbers weights : List ℕ) (t d : ℕ) → number_at numbers d ≢ t → sum_below (d + 1) (share numbers weights t) ≡ sum_below d (share numbers weights t)
-sum-other numbers weights t d n =
-    let one : share numbers weights t d ≡ 0 = ap (λ (b : Bool). cond b (weight_in weights (d / 2)) 0) (ne_eqb t (number_at numbers d) (λ e. n (sym e))) in
-    omega (arith, one, sum-more d (share numbers weights t))
 
 -- the sum of the number of a dart is the weight of its face
 pub share-face : (g : Multigraph) (r : List (List ℕ)) (numbers weights : List ℕ) → NumberFaces g r numbers → (d : ℕ) → d < dart_count g → sum_below (length numbers) (share numbers weights (number_at numbers d)) ≡ face_weight g r (weight_in weights) d

@@ -1,6 +1,6 @@
 // What a node adds to the weight of one of its items: the rest of the heaviest face that has it.
 
-ghost use Rattle.std.specs.Prelude.{◌≡◌, ◌<◌, ◌≤◌, ◌*◌, ◌+◌, ◌/◌, ◌==◌, ℕ, List, length, cond, max, IfOk};
+ghost use Rattle.std.specs.Prelude.{◌≡◌, ◌<◌, ◌≤◌, ◌*◌, ◌+◌, ◌/◌, ℕ, List, length, max, IfOk};
 ghost use Rattle.permutations.specs.Count.{sum_below};
 ghost use Rattle.multigraph.specs.Graph.{Multigraph, edge_count, IsWithinLimits, max_edges};
 ghost use Rattle.pair_split.specs.Tutte.{node_at};
@@ -11,7 +11,7 @@ ghost use Rattle.face_weights.specs.Rests.{IsFaceRest, IsOtherMost, IsRest};
 
 use crate::sums::{face_sum, totals_of};
 use pair_split::Kind;
-use skel_decompose::{NumberLists, renew};
+use skel_decompose::{FlatLists, renew};
 use spqr_tree::Tree;
 use std::alloc::AllocError;
 
@@ -101,7 +101,7 @@ fn pair_rests(weights: &[u32], rests: &mut Vec<u32>) -> Result<(), AllocError>
 }
 
 // What node k adds to one of its items, of these weights.
-pub(crate) fn rest_at(tree: &Tree, faces: &NumberLists, k: u32, weights: &[u32], item: usize) -> u32
+pub(crate) fn rest_at(tree: &Tree, faces: &FlatLists, k: u32, weights: &[u32], item: usize) -> u32
     requires block { (g : Multigraph) × IsBlockTree g tree.now × IsWithinLimits g }
     requires faces { (family : List (List (List ℕ))) × KnowFaces tree.now family faces.now }
     requires node { k < length tree.now }
@@ -121,7 +121,7 @@ pub(crate) fn rest_at(tree: &Tree, faces: &NumberLists, k: u32, weights: &[u32],
 // The same of each item. `totals` is changed on the way.
 pub(crate) fn rests_of(
     tree: &Tree,
-    faces: &NumberLists,
+    faces: &FlatLists,
     k: u32,
     weights: &[u32],
     totals: &mut Vec<u32>,

@@ -10,7 +10,7 @@ ghost use Rattle.face_weights.specs.Sums.{weight_in, AreFaceSums};
 use skel_decompose::renew;
 use std::alloc::AllocError;
 
-// The weight of the face of a dart, where the faces are told by the numbers of the darts.
+// The weight of the face of a dart, where the faces are given by the numbers of the darts.
 pub(crate) fn face_sum(numbers: &[u32], weights: &[u32], dart: usize) -> u32
     requires number { length numbers.now ≡ 2 * length weights.now }
     requires few { sum_below (length weights.now) (weight_in weights.now) ≤ 2 * max_edges }
@@ -50,7 +50,7 @@ pub(crate) fn totals_of(
     Ok(())
 }
 
-/// The weight of the face of each dart, where the faces are told by the numbers of the darts: the sum of the weights of the edges along
+/// The weight of the face of each dart, where the faces are given by the numbers of the darts: the sum of the weights of the edges along
 /// it, an edge with both sides on the face counted twice. They are put into `sums`, by way of `totals`, in linear time. Fails only if
 /// memory runs out.
 pub fn face_sums(

@@ -17,7 +17,7 @@ use crate::ordering::{ABSENT, order_of};
 use crate::rests::{rest_at, rests_of};
 use crate::table::Weights;
 use pair_split::{Item, What};
-use skel_decompose::NumberLists;
+use skel_decompose::FlatLists;
 use spqr_tree::Tree;
 use std::alloc::{AllocError, Global};
 
@@ -53,7 +53,7 @@ pub(crate) fn weights_of(
 }
 
 // What node k adds to its link to the parent, of these weights; none at the root.
-fn rest_at_parent(tree: &Tree, faces: &NumberLists, k: u32, parent: u32, weights: &[u32]) -> u32
+fn rest_at_parent(tree: &Tree, faces: &FlatLists, k: u32, parent: u32, weights: &[u32]) -> u32
     requires block { (g : Multigraph) × IsBlockTree g tree.now × IsWithinLimits g }
     requires faces { (family : List (List (List ℕ))) × KnowFaces tree.now family faces.now }
     requires node { k < length tree.now }
@@ -78,7 +78,7 @@ fn rest_at_parent(tree: &Tree, faces: &NumberLists, k: u32, parent: u32, weights
 fn pass_up(
     alloc: Global,
     tree: &Tree,
-    faces: &NumberLists,
+    faces: &FlatLists,
     parents: &[u32],
     order: &[u32],
 ) -> Result<Vec<u32>, AllocError>
@@ -144,7 +144,7 @@ fn greatest_sum(weights: &[u32], rests: &[u32]) -> u32
 fn pass_down(
     alloc: Global,
     tree: &Tree,
-    faces: &NumberLists,
+    faces: &FlatLists,
     parents: &[u32],
     order: &[u32],
     below: &[u32],
@@ -185,7 +185,7 @@ fn pass_down(
 ///
 /// The faces are those of the skeletons in a family of plane rotation systems, by the numbers of their darts. In linear time.
 /// Fails only if memory runs out.
-pub fn weigh(alloc: Global, tree: &Tree, faces: &NumberLists) -> Result<Weights, AllocError>
+pub fn weigh(alloc: Global, tree: &Tree, faces: &FlatLists) -> Result<Weights, AllocError>
     requires block { (g : Multigraph) × IsBlockTree g tree.now × IsWithinLimits g }
     requires faces { (family : List (List (List ℕ))) × KnowFaces tree.now family faces.now }
     ensures { IfOk result (λ w. (family : List (List (List ℕ))) → KnowFaces tree.now family faces.now

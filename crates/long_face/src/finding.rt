@@ -12,7 +12,7 @@ use crate::moving::moves_for;
 use crate::numbers::present_faces;
 use crate::present::has_face;
 use face_weights::{Weights, weigh};
-use skel_decompose::NumberLists;
+use skel_decompose::FlatLists;
 use skel_embed::{Move, PlaneBlock};
 use std::alloc::{AllocError, Global};
 
@@ -27,7 +27,7 @@ pub struct LongestFace {
 fn moves_to_longest(
     alloc: Global,
     p: &PlaneBlock,
-    faces: &NumberLists,
+    faces: &FlatLists,
     weights: &Weights,
 ) -> Result<Vec<Move>, AllocError>
     requires known { (family : List (List (List ℕ))) × KnowFaces p.now.tree family faces.now

@@ -13,7 +13,7 @@ use crate::rows::Rows;
 use crate::walking::wants_from;
 use crate::wants::Want;
 use face_weights::{ABSENT, Weights, face_sums, order_from};
-use skel_decompose::NumberLists;
+use skel_decompose::FlatLists;
 use spqr_tree::Tree;
 use std::alloc::{AllocError, Global};
 
@@ -21,7 +21,7 @@ use std::alloc::{AllocError, Global};
 fn row_of(
     alloc: Global,
     tree: &Tree,
-    faces: &NumberLists,
+    faces: &FlatLists,
     weights: &Weights,
     k: u32,
 ) -> Result<Rows, AllocError>
@@ -49,7 +49,7 @@ fn row_of(
 fn rows_of(
     alloc: Global,
     tree: &Tree,
-    faces: &NumberLists,
+    faces: &FlatLists,
     weights: &Weights,
 ) -> Result<Vec<Rows>, AllocError>
     requires block { (g : Multigraph) × IsBlockTree g tree.now × IsWithinLimits g }
@@ -71,7 +71,7 @@ fn rows_of(
 pub(crate) fn wants_of(
     alloc: Global,
     tree: &Tree,
-    faces: &NumberLists,
+    faces: &FlatLists,
     weights: &Weights,
 ) -> Result<Vec<Option<Want>>, AllocError>
     requires block { (g : Multigraph) × IsBlockTree g tree.now × IsWithinLimits g }

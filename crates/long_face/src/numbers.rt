@@ -9,13 +9,13 @@ ghost use Rattle.skel_decompose.specs.Followers.{AreStepsOf};
 ghost use Rattle.face_weights.specs.Numbers.{KnowFaces};
 
 use face_weights::number_faces;
-use skel_decompose::{NumberLists, face_steps};
+use skel_decompose::{FlatLists, face_steps};
 use skel_embed::PlaneBlock;
 use spqr_tree::Tree;
 use std::alloc::{AllocError, Global};
 
 // The numbers of the darts of each node, from the face steps of the skeletons. In linear time. Fails only if memory runs out.
-fn numbers_of(alloc: Global, tree: &Tree, steps: &NumberLists) -> Result<NumberLists, AllocError>
+fn numbers_of(alloc: Global, tree: &Tree, steps: &FlatLists) -> Result<FlatLists, AllocError>
     requires block { (g : Multigraph) × IsBlockTree g tree.now × IsWithinLimits g }
     requires steps { (family : List (List (List ℕ))) × AreSkeletonSystems tree.now family
         × AreStepsOf tree.now family steps.now }
@@ -23,7 +23,7 @@ fn numbers_of(alloc: Global, tree: &Tree, steps: &NumberLists) -> Result<NumberL
         → ((k : ℕ) → k < length tree.now → IsPlane (skeleton_graph tree.now k) (system_at family k))
         → AreStepsOf tree.now family steps.now → KnowFaces tree.now family faces) }
 {
-    let mut faces = NumberLists::with_capacity(alloc, tree.node_count() as usize)?;
+    let mut faces = FlatLists::with_capacity(alloc, tree.node_count() as usize)?;
     let mut own = Vec::new(alloc);
     for k in 0..tree.node_count() {
         number_faces(steps.at(k as usize), &mut own)?;
@@ -33,7 +33,7 @@ fn numbers_of(alloc: Global, tree: &Tree, steps: &NumberLists) -> Result<NumberL
 }
 
 // The faces of the skeletons, in the family that the present rotation system follows.
-pub(crate) fn present_faces(alloc: Global, p: &PlaneBlock) -> Result<NumberLists, AllocError>
+pub(crate) fn present_faces(alloc: Global, p: &PlaneBlock) -> Result<FlatLists, AllocError>
     ensures { IfOk result (λ faces. (family : List (List (List ℕ))) → AreSkeletonSystems p.now.tree family
         → FollowsFamily p.now.tree family p.now.rotation → KnowFaces p.now.tree family faces) }
 {

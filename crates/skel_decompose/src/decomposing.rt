@@ -8,7 +8,7 @@ ghost use Rattle.skeletons.specs.Families.{AreSkeletonSystems, FollowsFamily};
 ghost use Rattle.skel_decompose.specs.Followers.{AreStepsOf};
 
 use crate::filling::followers;
-use crate::lists::NumberLists;
+use crate::lists::FlatLists;
 use crate::members::member_of;
 use crate::steps::steps_of;
 use multigraph::Graph;
@@ -52,7 +52,7 @@ pub fn face_steps(
     g: &Graph,
     tree: &Tree,
     r: &Rotation,
-) -> Result<NumberLists, AllocError>
+) -> Result<FlatLists, AllocError>
     requires block { IsBlockTree g.now tree.now }
     requires system { IsRotationSystem g.now r.now }
     requires runs { IsContiguous tree.now r.now }
@@ -61,7 +61,7 @@ pub fn face_steps(
 {
     g.keeps_limits();
     let table = followers(alloc, g, tree, r)?;
-    let mut steps = NumberLists::with_capacity(alloc, tree.node_count() as usize)?;
+    let mut steps = FlatLists::with_capacity(alloc, tree.node_count() as usize)?;
     let mut own = Vec::new(alloc);
     for k in 0..tree.node_count() {
         steps_of(tree, &table, k, &mut own)?;

@@ -2,10 +2,10 @@
 
 ghost use Rattle.std.specs.Prelude.{◌+◌, ◌<◌, List, ℕ, length, IfOk};
 ghost use Rattle.skel_compose.specs.Homes.{HasHomes};
-ghost use Rattle.skel_decompose.specs.Followers.{IsInRuns, IsFamily, IsTable, Keeps, HasLasts, HasFollowers};
+ghost use Rattle.skel_decompose.specs.Followers.{IsInRuns, IsFamily, IsTable, HasLasts, HasFollowers};
 ghost use Rattle.skel_decompose.specs.Neighbors.{AreNeighbors};
 
-use crate::lists::NumberLists;
+use crate::lists::FlatLists;
 use crate::neighbors::neighbors_of;
 use crate::table::blank_table;
 use crate::walking::walk;
@@ -24,7 +24,7 @@ fn fill_from(
     homes: &[(u32, u32)],
     neighbors: &[Option<(u32, u32)>],
     k: u32,
-    table: &mut NumberLists,
+    table: &mut FlatLists,
 )
     requires runs { IsInRuns g.now tree.now r.now }
     requires homes { HasHomes g.now tree.now (length tree.now) 0 homes.now }
@@ -52,7 +52,7 @@ pub(crate) fn followers(
     g: &Graph,
     tree: &Tree,
     r: &Rotation,
-) -> Result<NumberLists, AllocError>
+) -> Result<FlatLists, AllocError>
     requires runs { IsInRuns g.now tree.now r.now }
     ensures table { IfOk result (λ table. IsTable tree.now table) }
     ensures followers { IfOk result (λ table. (family : List (List (List ℕ)))

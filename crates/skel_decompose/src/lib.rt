@@ -10,7 +10,7 @@
 // `decompose` gives the one family that a rotation system follows, and `face_steps` the face steps of its members without making them
 // or the skeletons; both fail only if memory runs out. All walks together take as many steps as the skeletons have items, twice, and
 // each step takes a look at where an edge is, or a binary search in a node. Nothing recurses. The lists of all nodes are kept as one
-// (`NumberLists`).
+// (`FlatLists`).
 //
 // The lemmas, by their modules in proofs/:
 //   Flat      flat-view, flat-push, piece-of, flat-put: lists kept as one
@@ -34,4 +34,4 @@ mod table;
 mod walking;
 
 pub use decomposing::{decompose, face_steps};
-pub use lists::{NumberLists, renew};
+pub use lists::{FlatLists, renew};

@@ -9,12 +9,12 @@ use std::marker::Model;
 
 /// Lists of numbers, which are kept one after the other, with the places where they end. In contracts it is the list of these lists.
 #[derive(Debug, Drop)]
-pub struct NumberLists {
+pub struct FlatLists {
     numbers: Vec<u32>,
     ends: Vec<usize>,
 }
 
-impl Model for NumberLists {
+impl Model for FlatLists {
     ghost use Rattle.std.specs.Prelude.{List, ℕ};
     ghost use Rattle.skel_decompose.specs.Flat.{cut_from, AreFlat};
 
@@ -41,12 +41,12 @@ fn write(list: &mut [u32], place: usize, number: u32)
     list[place] = number;
 }
 
-impl NumberLists {
+impl FlatLists {
     /// No lists, with room for the ends of this many. Fails only if memory runs out.
-    pub fn with_capacity(alloc: Global, count: usize) -> Result<NumberLists, AllocError>
+    pub fn with_capacity(alloc: Global, count: usize) -> Result<FlatLists, AllocError>
         ensures { IfOk result (λ lists. lists ≡ []) }
     {
-        Ok(NumberLists {
+        Ok(FlatLists {
             numbers: Vec::new(alloc),
             ends: Vec::with_capacity(alloc, count)?,
         })

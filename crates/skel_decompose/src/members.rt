@@ -9,7 +9,7 @@ ghost use Rattle.skeletons.specs.Families.{skeleton_graph, system_at, AreSkeleto
 ghost use Rattle.skel_compose.specs.Orders.{orders_below};
 ghost use Rattle.skel_decompose.specs.Followers.{IsTable, HasFollowers};
 
-use crate::lists::NumberLists;
+use crate::lists::FlatLists;
 use crate::table::item_place;
 use multigraph::Graph;
 use rotations::{Lists, Rotation};
@@ -21,7 +21,7 @@ fn items_round(
     alloc: Global,
     tree: &Tree,
     graph: &Graph,
-    table: &NumberLists,
+    table: &FlatLists,
     k: u32,
     p: u32,
 ) -> Result<Vec<u32>, AllocError>
@@ -50,7 +50,7 @@ fn orders(
     alloc: Global,
     tree: &Tree,
     graph: &Graph,
-    table: &NumberLists,
+    table: &FlatLists,
     k: u32,
 ) -> Result<Lists, AllocError>
     requires block { (g : Multigraph) × IsBlockTree g tree.now × IsWithinLimits g }
@@ -75,7 +75,7 @@ fn orders(
 pub(crate) fn member_of(
     alloc: Global,
     tree: &Tree,
-    table: &NumberLists,
+    table: &FlatLists,
     k: u32,
 ) -> Result<Rotation, AllocError>
     requires block { (g : Multigraph) × IsBlockTree g tree.now × IsWithinLimits g }

@@ -10,13 +10,13 @@ ghost use Rattle.skeletons.specs.Items.{IsBlockTree};
 ghost use Rattle.skeletons.specs.Families.{skeleton_graph, system_at, AreSkeletonSystems};
 ghost use Rattle.skel_decompose.specs.Followers.{IsItemEnd, follower, IsTable, HasFollowers};
 
-use crate::lists::NumberLists;
+use crate::lists::FlatLists;
 use crate::table::item_place;
 use spqr_tree::Tree;
 use std::alloc::AllocError;
 
 // The dart by which a face of the skeleton of node k continues that arrives at v by item i.
-fn onward(tree: &Tree, table: &NumberLists, k: u32, i: u32, v: u32) -> u32
+fn onward(tree: &Tree, table: &FlatLists, k: u32, i: u32, v: u32) -> u32
     requires block { (g : Multigraph) × IsBlockTree g tree.now × IsWithinLimits g }
     requires end { IsItemEnd tree.now k i v }
     requires table { IsTable tree.now table.now }
@@ -33,7 +33,7 @@ fn onward(tree: &Tree, table: &NumberLists, k: u32, i: u32, v: u32) -> u32
 // Puts the face steps of the skeleton of node k into `steps`.
 pub(crate) fn steps_of(
     tree: &Tree,
-    table: &NumberLists,
+    table: &FlatLists,
     k: u32,
     steps: &mut Vec<u32>,
 ) -> Result<(), AllocError>

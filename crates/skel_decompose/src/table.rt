@@ -7,7 +7,7 @@ ghost use Rattle.pair_split.specs.Tutte.{node_at};
 ghost use Rattle.skeletons.specs.Items.{IsBlockTree};
 ghost use Rattle.skel_decompose.specs.Followers.{item_place, IsTable};
 
-use crate::lists::{NumberLists, renew};
+use crate::lists::{FlatLists, renew};
 use spqr_tree::Tree;
 use std::alloc::{AllocError, Global};
 
@@ -27,11 +27,11 @@ pub(crate) fn item_place(tree: &Tree, k: u32, i: u32, v: u32) -> usize
 }
 
 // A table in which nothing is written yet.
-pub(crate) fn blank_table(alloc: Global, tree: &Tree) -> Result<NumberLists, AllocError>
+pub(crate) fn blank_table(alloc: Global, tree: &Tree) -> Result<FlatLists, AllocError>
     requires block { (g : Multigraph) × IsBlockTree g tree.now × IsWithinLimits g }
     ensures { IfOk result (λ table. IsTable tree.now table) }
 {
-    let mut table = NumberLists::with_capacity(alloc, tree.node_count() as usize)?;
+    let mut table = FlatLists::with_capacity(alloc, tree.node_count() as usize)?;
     let mut row = Vec::new(alloc);
     for k in 0..tree.node_count() {
         renew(&mut row, 2 * tree.items(k).len(), 0)?;

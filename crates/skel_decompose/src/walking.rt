@@ -6,7 +6,7 @@ ghost use Rattle.skel_compose.specs.Homes.{IsHome, HasHomes};
 ghost use Rattle.skel_decompose.specs.Followers.{IsInRuns, IsFamily, IsTable, Keeps, HasLast};
 ghost use Rattle.skel_decompose.specs.Neighbors.{AreNeighbors};
 
-use crate::lists::NumberLists;
+use crate::lists::FlatLists;
 use crate::searching::{item_back, item_of};
 use crate::table::item_place;
 use pair_split::What;
@@ -19,7 +19,7 @@ pub(crate) fn walk(
     r: &Rotation,
     homes: &[(u32, u32)],
     neighbors: &[Option<(u32, u32)>],
-    table: &mut NumberLists,
+    table: &mut FlatLists,
     home: (u32, u32),
     v: u32,
     e: u32,

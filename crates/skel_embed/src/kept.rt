@@ -1,10 +1,10 @@
 // The keys of a choice, from the least on, changed in place.
 
-ghost use Rattle.std.specs.Prelude.{◌≡◌, ◌≤◌, ◌++◌, ◌==◌, true, length, map, reverse, take, drop};
+ghost use Rattle.std.specs.Prelude.{◌≡◌, ◌≤◌, ◌++◌, ◌==◌, true, length, reverse, take, drop};
 ghost use Rattle.std.specs.List.{position};
 ghost use Rattle.permutations.specs.Cyclic.{from_least, turned};
 ghost use Rattle.permutations.specs.Members.{is_member, is_distinct};
-ghost use Rattle.skel_embed.specs.Exchanges.{other_of, exchanged, turned_choice, AreWritten, StandsAt};
+ghost use Rattle.skel_embed.specs.Exchanges.{other_of, exchanged, turned_choice, StandsAt};
 
 // Reverses the cyclic order.
 pub(crate) fn turn_round(keys: &mut [u32])

@@ -2,7 +2,7 @@ use Rattle.std.proofs.Common.{◌≡◌, ◌<◌, ℕ, ◌+◌, List, length, ap
 use Rattle.std.proofs.lemmas.List.{get_or_read}
 use Rattle.skel_decompose.specs.Flat.{start_at, AreFlat}
 use Rattle.skel_decompose.proofs.Flat.{ends-count, end-is, start-within, start-grows}
-use Rattle.skel_decompose.proofs.lists.NumberLists.bounds.Goals as goal
+use Rattle.skel_decompose.proofs.lists.FlatLists.bounds.Goals as goal
 
 pub index-requires : goal.index-requires
 index-requires c =

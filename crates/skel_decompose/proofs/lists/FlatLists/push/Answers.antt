@@ -1,7 +1,7 @@
 use Rattle.std.proofs.Common.{◌≡◌, ℕ, List, [], ◌∷◌, ◌++◌, length, sym, ap, ◌∙◌, subst}
 use Rattle.skel_decompose.specs.Flat.{cut_from, AreFlat}
 use Rattle.skel_decompose.proofs.Flat.{flat-push, flat-view, flat-again}
-use Rattle.skel_decompose.proofs.lists.NumberLists.push.Goals as goal
+use Rattle.skel_decompose.proofs.lists.FlatLists.push.Goals as goal
 
 pub invariant_of-self-2 : goal.invariant_of-self-2
 invariant_of-self-2 c =

@@ -1,7 +1,7 @@
 use Rattle.std.proofs.Common.{ℕ, ◌-◌, List, take, drop, ap, ◌∙◌, subst}
 use Rattle.skel_decompose.specs.Flat.{AreFlat}
 use Rattle.skel_decompose.proofs.Flat.{piece-of}
-use Rattle.skel_decompose.proofs.lists.NumberLists.at.Goals as goal
+use Rattle.skel_decompose.proofs.lists.FlatLists.at.Goals as goal
 
 pub returns : goal.returns
 returns c =

@@ -2,7 +2,7 @@ use Rattle.std.proofs.Common.{◌≡◌, ◌<◌, ℕ, ◌-◌, List, [], ◌++�
 use Rattle.std.proofs.lemmas.List.{length-set, with_items_is}
 use Rattle.skel_decompose.specs.Flat.{cut_from, AreFlat}
 use Rattle.skel_decompose.proofs.Flat.{flat-view, flat-again, piece-of, flat-put, put-length}
-use Rattle.skel_decompose.proofs.lists.NumberLists.set.Goals as goal
+use Rattle.skel_decompose.proofs.lists.FlatLists.set.Goals as goal
 
 pub write-requires : goal.write-requires
 write-requires c =
