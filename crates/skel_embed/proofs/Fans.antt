@@ -1,5 +1,5 @@
 -- The lists of a fan, and its orders.
-use Rattle.std.proofs.Common.{◌≡◌, ◌≢◌, ℕ, zero, suc, ◌<◌, ◌≤◌, true, Result, Ok, Err, is_ok, IfOk, List, [], ◌∷◌, reverse, refl, sym, ap, ◌∙◌, subst, arith}
+use Rattle.std.proofs.Common.{◌≡◌, ◌≢◌, ℕ, zero, suc, ◌<◌, ◌≤◌, true, if◌then◌else◌, Result, Ok, Err, is_ok, IfOk, List, [], ◌∷◌, reverse, refl, sym, ap, ◌∙◌, subst, arith}
 use Rattle.std.specs.List.Sorted.{IsPermutation}
 use Rattle.std.proofs.lemmas.List.Sorted.{IsPermutation-reverse, IsPermutation-refl}
 use Rattle.std.proofs.lemmas.List.{get_or-map}

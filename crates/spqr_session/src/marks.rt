@@ -1,5 +1,5 @@
 // The vertices at which lists may be kept.
-ghost use Rattle.std.specs.Prelude.{◌≡◌, ◌++◌, ◌∷◌, true, [], map, filter, slice_index_or, IfOk};
+ghost use Rattle.std.specs.Prelude.{◌≡◌, ◌++◌, ◌∷◌, true, [], map, filter, slice_index_or, if◌then◌else◌, IfOk};
 ghost use Rattle.std.specs.List.{list_all};
 ghost use Rattle.multigraph.specs.Marks.{is_marked};
 ghost use Rattle.spqr_session.specs.Embedded.{BlockView, view_tree};
