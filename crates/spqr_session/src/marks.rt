@@ -1,10 +1,10 @@
 // The vertices at which lists may be kept.
-ghost use Rattle.std.specs.Prelude.{◌≡◌, ◌++◌, ◌∷◌, true, [], map, filter, slice_index_or, if◌then◌else◌, IfOk};
+ghost use Rattle.std.specs.Prelude.{◌≡◌, ◌++◌, ◌∷◌, true, [], map, filter, replicate, length, slice_index_or, if◌then◌else◌, IfOk};
 ghost use Rattle.std.specs.List.{list_all};
 ghost use Rattle.multigraph.specs.Marks.{is_marked};
 ghost use Rattle.spqr_session.specs.Embedded.{BlockView, view_tree};
 ghost use Rattle.spqr_session.specs.History.{lists_set};
-ghost use Rattle.spqr_session.specs.Marked.{may_set, marked_in, IsMarked};
+ghost use Rattle.spqr_session.specs.Marked.{may_set, marked_in, AreKeptAt, IsMarked};
 
 use crate::embedded::EmbeddedBlock;
 use crate::kept::KeptLists;

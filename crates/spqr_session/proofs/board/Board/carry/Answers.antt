@@ -4,7 +4,7 @@ use Rattle.spqr_session.specs.History.{lists_set, IsStepOf}
 use Rattle.spqr_session.specs.Board.{BoardView, LeadsTo}
 use Rattle.spqr_session.proofs.Boards.{noted-added}
 use Rattle.spqr_session.proofs.BoardSteps.{on-right, on-goes, step-kept}
-use Rattle.spqr_session.proofs.MarkedLists.{marked-after}
+use Rattle.spqr_session.proofs.MarkedLists.{marked-after, marked-before}
 use Rattle.spqr_session.proofs.board.Board.carry.Goals as goal
 
 pub carry_forth-requires : goal.carry_forth-requires
