@@ -3,13 +3,14 @@
 
 For each kind a graph of half the size and of the whole size (20,000 vertices or 50,000 edges), planar, and for some kinds the same with
 two to four edges more that cross. A row has vertices and edges, seconds of reading the file alone (with a loop after its edges, for
-which it is refused), seconds of the head, how much longer it took than at half the size, peak memory in MiB, and the last line: best of
-three runs."""
+which it is refused), seconds of the head, how many times as long as reading alone and as at half the size it took, peak memory in MiB, and
+the last line. Seconds are those of the processor, least of eleven runs by turns."""
 import os
 import random
 import subprocess
 import sys
-import time
+import tempfile
+import threading
 
 from kinds import (bipartite, bundle, bundles, cactus, cycle, grid, grown, ladder, nest, path, series_parallel, star, triangulation, wheel)
 
@@ -38,29 +39,38 @@ def write(name, vertices, ends):
         file.write("".join(f"edge [ source {a} target {b} ]\n" for a, b in ends) + "]\n")
 
 
-def timed(name, script, times=3):
-    best, peak, last = None, 0, b""
-    for _ in range(times):
-        start = time.perf_counter()
-        process = subprocess.Popen([PROGRAM, "run", f"{DATA}/{name}.gml", script], stdout=subprocess.PIPE)
-        try:
-            out, _ = process.communicate(timeout=LIMIT)
-        except subprocess.TimeoutExpired:
-            process.kill()
-            process.wait()
-            return None, None, f"more than {LIMIT} s"
-        seconds = time.perf_counter() - start
-        best = seconds if best is None else min(best, seconds)
-        last = out.splitlines()[-1][:28].decode()
-    usage = subprocess.run(["/usr/bin/env", "python3", "-c", f"import os,subprocess,sys;p=subprocess.Popen({[PROGRAM, 'run', f'{DATA}/{name}.gml', script]!r},stdout=subprocess.DEVNULL);print(os.wait4(p.pid,0)[2].ru_maxrss)"], stdout=subprocess.PIPE)
-    return best, int(usage.stdout) / 1024, last
+def run(name, script):
+    """A run: seconds of the processor, and the last line of the output."""
+    with tempfile.TemporaryFile() as out:
+        process = subprocess.Popen([PROGRAM, "run", f"{DATA}/{name}.gml", script], stdout=out)
+        timer = threading.Timer(LIMIT, process.kill)
+        timer.start()
+        _, status, usage = os.wait4(process.pid, 0)
+        timer.cancel()
+        process.returncode = os.waitstatus_to_exitcode(status)
+        if process.returncode < 0:
+            return LIMIT, f"more than {LIMIT} s"
+        out.seek(max(0, out.seek(0, os.SEEK_END) - 200))
+        return usage.ru_utime + usage.ru_stime, out.read().splitlines()[-1][:28].decode()
+
+
+def peak(name, script):
+    """The peak memory of a run in MiB: that of a process of its own, since a child begins with the memory of the one that starts it."""
+    line = f"import os,subprocess;p=subprocess.Popen({[PROGRAM, 'run', f'{DATA}/{name}.gml', script]!r},stdout=subprocess.DEVNULL);print(os.wait4(p.pid,0)[2].ru_maxrss)"
+    return int(subprocess.run([sys.executable, "-c", line], stdout=subprocess.PIPE).stdout) / 1024
+
+
+def timed(runs, times=11):
+    """Each of the runs so many times, by turns: of each the run with the least seconds."""
+    rounds = [[run(*one) for one in runs] for _ in range(times)]
+    return [min(column) for column in zip(*rounds)]
 
 
 def main():
     os.makedirs(DATA, exist_ok=True)
     with open(f"{DATA}/empty.spqr", "w"):
         pass
-    print(f"{'input':<24}{'vertices':>9}{'edges':>8}{'read s':>8}{'head s':>8}{'growth':>8}{'MiB':>7}  last line")
+    print(f"{'input':<24}{'vertices':>9}{'edges':>8}{'read s':>8}{'head s':>8}{'/ read':>8}{'growth':>8}{'MiB':>7}  last line")
     for kind in KINDS:
         if sys.argv[2:] and kind.__name__ not in sys.argv[2:]:
             continue
@@ -72,10 +82,10 @@ def main():
                 name = f"large_{kind.__name__}{'_crossed' if crossed else ''}_{size}"
                 write(name, vertices, ends)
                 write(name + "_loop", vertices, ends + [(0, 0)])
-                read, _, _ = timed(name + "_loop", f"{DATA}/empty.spqr")
-                head, peak, last = timed(name, f"{DATA}/empty.spqr")
-                growth = f"{head / before:>8.2f}" if before and head else f"{'':>8}"
-                print(f"{name[6:]:<24}{vertices:>9}{len(ends):>8}{read or 0:>8.3f}{head or 0:>8.3f}{growth}{peak or 0:>7.0f}  {last}", flush=True)
+                (read, _), (head, last) = timed([(name + "_loop", f"{DATA}/empty.spqr"), (name, f"{DATA}/empty.spqr")])
+                growth = f"{head / before:>8.2f}" if before else f"{'':>8}"
+                held = peak(name, f"{DATA}/empty.spqr")
+                print(f"{name[6:]:<24}{vertices:>9}{len(ends):>8}{read:>8.3f}{head:>8.3f}{head / read:>8.2f}{growth}{held:>7.0f}  {last}", flush=True)
                 before = head
     mixed()
 
@@ -89,8 +99,8 @@ def mixed():
         lines += ["next 0", "rank 0", f"goto 0 {draw.randrange(2**100)}", "mirror 0", "undo", f"flip 0 {draw.randrange(10000)}", f"lock 0 {draw.randrange(10000)}", "count 0"]
     with open(f"{DATA}/mixed.spqr", "w") as file:
         file.write("\n".join(lines) + "\n")
-    seconds, peak, last = timed("large_mixed", f"{DATA}/mixed.spqr", 1)
-    print(f"{'1,000 mixed commands':<24}{vertices:>9}{len(ends):>8}{'':>8}{seconds or 0:>8.3f}{'':>8}{peak or 0:>7.0f}  {last}", flush=True)
+    [(seconds, last)] = timed([("large_mixed", f"{DATA}/mixed.spqr")])
+    print(f"{'1,000 mixed commands':<24}{vertices:>9}{len(ends):>8}{'':>8}{seconds:>8.3f}{'':>16}{peak('large_mixed', f'{DATA}/mixed.spqr'):>7.0f}  {last}", flush=True)
 
 
 main()
