@@ -4,7 +4,7 @@
 For each kind a graph of half the size and of the whole size (20,000 vertices or 50,000 edges), planar, and for some kinds the same with
 two to four edges more that cross. A row has vertices and edges, seconds of reading the file alone (with a loop after its edges, for
 which it is refused), seconds of the head, how many times as long as reading alone and as at half the size it took, peak memory in MiB, and
-the last line. Seconds are those of the processor, least of eleven runs by turns."""
+the last line. Seconds are those of the processor, least of eleven runs in alternation."""
 import os
 import random
 import subprocess
@@ -49,7 +49,7 @@ def run(name, script):
         timer.cancel()
         process.returncode = os.waitstatus_to_exitcode(status)
         if process.returncode < 0:
-            return LIMIT, f"more than {LIMIT} s"
+            return LIMIT, f"ended by signal {-process.returncode}"
         out.seek(max(0, out.seek(0, os.SEEK_END) - 200))
         return usage.ru_utime + usage.ru_stime, out.read().splitlines()[-1][:28].decode()
 
@@ -61,8 +61,10 @@ def peak(name, script):
 
 
 def timed(runs, times=11):
-    """Each of the runs so many times, by turns: of each the run with the least seconds."""
-    rounds = [[run(*one) for one in runs] for _ in range(times)]
+    """Each of the runs so many times, in alternation: of each the run with the least seconds. One that takes too long ends this."""
+    rounds = []
+    while len(rounds) < times and not any(seconds == LIMIT for one in rounds for seconds, _ in one):
+        rounds.append([run(*one) for one in runs])
     return [min(column) for column in zip(*rounds)]
 
 
@@ -84,7 +86,7 @@ def main():
                 write(name + "_loop", vertices, ends + [(0, 0)])
                 (read, _), (head, last) = timed([(name + "_loop", f"{DATA}/empty.spqr"), (name, f"{DATA}/empty.spqr")])
                 growth = f"{head / before:>8.2f}" if before else f"{'':>8}"
-                held = peak(name, f"{DATA}/empty.spqr")
+                held = peak(name, f"{DATA}/empty.spqr") if head < LIMIT else 0
                 print(f"{name[6:]:<24}{vertices:>9}{len(ends):>8}{read:>8.3f}{head:>8.3f}{head / read:>8.2f}{growth}{held:>7.0f}  {last}", flush=True)
                 before = head
     mixed()
