@@ -22,6 +22,7 @@
 //   FaceLengths has-found, has-none: whether a face has a length; Asked one-side; Walked, Steps: the walk from the top; RowsMade known-ready; Final
 #![tactic(auto)]
 
+mod bonds;
 mod exchanged;
 mod finding;
 mod joining;
@@ -29,6 +30,7 @@ mod laws;
 mod links;
 mod moving;
 mod numbers;
+mod polygons;
 mod present;
 mod rows;
 mod walking;
