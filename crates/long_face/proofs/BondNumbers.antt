@@ -1,8 +1,8 @@
 -- The faces of a bond numbered along its choice.
-use Rattle.std.proofs.Common.{◌≡◌, ◌≢◌, ℕ, suc, ◌+◌, ◌*◌, ◌/◌, ◌%◌, ◌<◌, ◌⊎◌, Bool, true, false, ◌||◌, ◌==◌, inl, inr, List, ◌∷◌, ◌++◌, length, map, take, drop, slice_index_or, slice_set, refl, sym, ap, ◌∙◌, subst, arith, eq-eqb, eqb-true, IsPermutation}
-use Rattle.std.proofs.lemmas.Bool.{cases_Bool, cases_eq, or_cases, or_left, or_right}
+use Rattle.std.proofs.Common.{◌≡◌, ◌≢◌, ℕ, suc, ◌+◌, ◌*◌, ◌/◌, ◌%◌, ◌<◌, ◌≤◌, ◌⊎◌, true, ◌||◌, ◌==◌, inl, inr, List, ◌∷◌, ◌++◌, length, map, take, drop, slice_index_or, slice_set, refl, sym, ap, ◌∙◌, subst, arith, eq-eqb, eqb-true, IsPermutation}
+use Rattle.std.proofs.lemmas.Bool.{cases_eq, or_cases, or_left, or_right}
 use Rattle.std.proofs.lemmas.List.{length-map, length-set, length-take-le, get_or-set_same, get_or-set_other, get_or-map, take-append-drop}
-use Rattle.std.proofs.lemmas.List.Sorted.{length_permutation, IsPermutation-sym}
+use Rattle.std.proofs.lemmas.List.Sorted.{length_permutation}
 use Rattle.permutations.specs.Cyclic.{successor, predecessor}
 use Rattle.permutations.specs.Members.{is_member, is_distinct}
 use Rattle.std.proofs.Math.Seq.{drop-cons}
@@ -17,15 +17,18 @@ use Rattle.multigraph.proofs.Places.{rises-once}
 use Rattle.dart_maps.specs.Map.{twin}
 use Rattle.dart_maps.proofs.Darts.{twin-even}
 use Rattle.rotations.specs.Rotation.{IsRotationSystem}
-use Rattle.faces.specs.Euler.{dart_count, IsPlane}
-use Rattle.faces.specs.Maps.{dart_after}
+use Rattle.faces.specs.Euler.{dart_count, IsPlane, IsPlaneSystem}
 use Rattle.pair_split.specs.Tutte.{Node, node_at, node_item}
 use Rattle.pair_split.specs.declared.components.Item.{Item}
 use Rattle.pair_split.specs.declared.components.Kind.TheVariants.{P}
 use Rattle.skeletons.specs.Items.{item_key, nth_item, node_keys, least_vertex, IsBlockTree}
-use Rattle.skeletons.specs.Families.{skeleton_graph}
+use Rattle.skeletons.specs.Choices.{choice}
+use Rattle.skeletons.specs.Families.{skeleton_graph, system_at, AreSkeletonSystems, FollowsFamily}
 use Rattle.skeletons.specs.Moves.{IsNodeOfKind}
 use Rattle.skeletons.proofs.NodeItems.{no_item}
+use Rattle.skeletons.proofs.Leading.{bond-choice}
+use Rattle.skeleton_runs.proofs.Contiguous.{plane-contiguous}
+use Rattle.skeleton_planes.proofs.Followed.{follows-plane_back}
 use Rattle.skeleton_runs.proofs.SkeletonGraph.{graph-edges}
 use Rattle.skeleton_choices.proofs.Rounds.{skeleton_round}
 use Rattle.skeleton_faces.specs.Faces.{on_one_face}
@@ -33,6 +36,7 @@ use Rattle.face_weights.specs.Numbers.{number_at, NumberFaces}
 use Rattle.long_face.specs.Bonds.{AreBondNumbers, AreBondNumbersUpTo}
 use Rattle.skel_embed.specs.Exchanges.{StandsAt}
 use Rattle.long_face.proofs.Changes.{follow-end, follow-next}
+use Rattle.long_face.proofs.Possible.{bond-round}
 use Rattle.long_face.proofs.Bonds.{bond-next, bond-face}
 
 -- a dart of an item is even or odd
@@ -206,7 +210,7 @@ module _ (g : Multigraph) (nodes : List Node) (b : IsBlockTree g nodes) (k : ℕ
           let e : 2 * o.second ≡ 2 * p.second = sym o.number ∙ eqb-true (number_at numbers x) (number_at numbers y) t ∙ p.number in
           let second : p.second ≡ o.second = omega (arith, e) in
           let first : p.first ≡ o.first = item-one items rising keys all p.first o.first p.first_in o.first_in
-              (successor-injective keys (node_item nodes k p.first).key (node_item nodes k o.first).key once (p.next ∙ ap (λ z. (node_item nodes k z).key) second ∙ sym o.next)) in
+          (successor-injective keys (node_item nodes k p.first).key (node_item nodes k o.first).key once (p.next ∙ ap (λ z. (node_item nodes k z).key) second ∙ sym o.next)) in
           elim p.on [
             | inl q ↦ or_left (y == twin (2 * o.first)) (y == 2 * o.second) (eq-eqb y (twin (2 * o.first)) (q ∙ ap (λ z. twin (2 * z)) first))
             | inr q ↦ or_right (y == twin (2 * o.first)) (y == 2 * o.second) (eq-eqb y (2 * o.second) (q ∙ ap (λ z. 2 * z) second))
@@ -224,3 +228,11 @@ module _ (g : Multigraph) (nodes : List Node) (b : IsBlockTree g nodes) (k : ℕ
     within = λ d l. let o = on-face d l in omega (arith, o.number, o.second_in, darts);
     same = λ x y lx ly. same-number x y (on-face x lx) (on-face y ly);
   }
+
+-- so those of a bond of a block in the plane, by its choice, number the faces in the family that is followed
+pub bond-known : (g : Multigraph) (nodes : List Node) (b : IsBlockTree g nodes) (r : List (List ℕ)) (p : IsPlaneSystem g r) (k : ℕ) (is : IsNodeOfKind nodes k P) (family : List (List (List ℕ))) → AreSkeletonSystems nodes family → FollowsFamily nodes family r → (numbers : List ℕ)
+    → AreBondNumbers (node_at nodes k).items (choice nodes r k) numbers → NumberFaces (skeleton_graph nodes k) (system_at family k) numbers
+bond-known g nodes b r p k is family f h numbers w =
+    let plane : (j : ℕ) → j < length nodes → IsPlane (skeleton_graph nodes j) (system_at family j) = follows-plane_back g nodes b family f r p.system h p.plane in
+    bond-numbered g nodes b k is (system_at family k) (f.systems k is.0) (plane k is.0) (choice nodes r k) ((bond-choice g nodes b r k p.system (plane-contiguous g nodes r b p) is).0)
+    (bond-round g nodes b r (record { family = family; systems = f; follows = h; plane = plane }) k is) numbers w

@@ -1,23 +1,23 @@
 -- The face steps of a polygon: two items meet at a vertex, and the sum of their places tells the one by the other.
-use Rattle.std.proofs.Common.{◌≡◌, ◌≢◌, ℕ, ◌+◌, ◌*◌, ◌<◌, ◌≤◌, ◌⊎◌, Bool, true, false, ◌||◌, ◌==◌, cond, inl, inr, List, length, slice_index_or, slice_set, add-one, refl, sym, ap, ◌∙◌, subst, arith, eq-eqb, eqb-true}
-use Rattle.std.proofs.lemmas.Bool.{cases_eq, cases_Bool, ne_eqb, or_cases, or_left, or_right, both_ways}
+use Rattle.std.proofs.Common.{◌≡◌, ◌≢◌, ℕ, ◌+◌, ◌-◌, ◌*◌, ◌<◌, ◌≤◌, ◌⊎◌, Bool, true, false, ◌||◌, ◌==◌, if◌then◌else◌, cond, inl, inr, List, length, slice_index_or, slice_set, add-one, refl, sym, ap, ◌∙◌, subst, arith, eq-eqb, eqb-true}
+use Rattle.std.proofs.lemmas.Bool.{cases_eq, ne_eqb, or_cases, or_left, or_right}
 use Rattle.std.proofs.lemmas.List.{length-set, get_or-set_same, get_or-set_other}
 use Rattle.permutations.specs.Cyclic.{successor}
-use Rattle.permutations.specs.Count.{sum_below}
-use Rattle.permutations.specs.Members.{is_member, place_of}
+use Rattle.permutations.specs.Members.{place_of}
 use Rattle.permutations.proofs.Places.{place-of}
 use Rattle.permutations.proofs.Relation.{same-tests}
 use Rattle.permutations.proofs.Sums.{sum_below-le, sum_below-const}
 use Rattle.permutations.proofs.Successor.{successor-member}
-use Rattle.multigraph.specs.Graph.{Multigraph}
+use Rattle.multigraph.specs.Graph.{Multigraph, IsWithinLimits}
 use Rattle.rotations.specs.Rotation.{order_at}
+use Rattle.faces.specs.Euler.{dart_from}
 use Rattle.pair_split.specs.Skeleton.{is_end_of, IsPolygon}
 use Rattle.pair_split.specs.Split.{skeleton}
 use Rattle.pair_split.specs.Tutte.{Node, components, node_at, node_item}
 use Rattle.pair_split.specs.declared.components.Item.{Item}
 use Rattle.pair_split.specs.declared.components.Kind.TheVariants.{S}
 use Rattle.skeletons.specs.Items.{ends_item, nth_item, has_vertex, IsBlockTree}
-use Rattle.skeletons.specs.Families.{system_at, AreSkeletonSystems}
+use Rattle.skeletons.specs.Families.{skeleton_graph, system_at, AreSkeletonSystems}
 use Rattle.skeletons.specs.Moves.{IsNodeOfKind}
 use Rattle.skeletons.proofs.NodeItems.{item-vertex}
 use Rattle.skeletons.proofs.Places.{round-item, item-round}
@@ -27,8 +27,10 @@ use Rattle.skeleton_planes.proofs.OneSystem.{kind-of}
 use Rattle.skeleton_planes.proofs.PolygonSkeleton.{pair-in, pair-end, next-other}
 use Rattle.skeleton_planes.proofs.RunTests.{end_of}
 use Rattle.skel_decompose.specs.Followers.{IsItemEnd, follower}
+use Rattle.skel_decompose.proofs.Stepped.{follower-dart}
 use Rattle.long_face.specs.Polygons.{end_sum, AreEndSums}
 use Rattle.long_face.proofs.Bonds.{sum-two}
+use Rattle.long_face.proofs.RowLemmas.{items-few}
 
 -- the sum over items that are few is small
 pub end_sum-small : (items : List Item) (v count : ℕ) → count ≤ 50000 → end_sum items v count ≤ count * 50000
@@ -102,6 +104,48 @@ module _ (nodes : List Node) (k count : ℕ) (sums : List ℕ) (old : AreEndSums
           one : end_sum (node_at nodes k).items v count + cond (ends_item v (nth_item (node_at nodes k).items count)) count 0 ≡ end_sum (node_at nodes k).items v (count + 1)
           one = rw add-one refl
 
+-- the ends of an item at which its place is added, and the sums there
+module _ (g : Multigraph) (nodes : List Node) (b : IsBlockTree g nodes) (limits : IsWithinLimits g) (k : ℕ) (l : k < length nodes) (count : ℕ) (m : count < length (node_at nodes k).items) (sums : List ℕ) (old : AreEndSums nodes k count sums)
+    (items : List Item) (e : items ≡ (node_at nodes k).items) where
+  abbrev first_end : ℕ
+  first_end = (nth_item items count).a
+
+  abbrev second_end : ℕ
+  second_end = (nth_item items count).b
+
+  abbrev added : List ℕ
+  added = slice_set sums (nth_item items count).a (slice_index_or sums (nth_item items count).a 0 + count)
+
+  few : count ≤ 50000
+  few = let n = items-few g nodes b k l limits in omega (arith, m, n)
+
+  first-has : has_vertex nodes k (nth_item items count).a ≡ true
+  first-has = subst (λ (z : List Item). has_vertex nodes k (nth_item z count).a ≡ true) (sym e) (item-vertex g nodes b.tree k (node_item nodes k count).a count l m (or_left ((node_item nodes k count).a == (node_item nodes k count).a) ((node_item nodes k count).b == (node_item nodes k count).a) (eq-eqb (node_item nodes k count).a (node_item nodes k count).a refl)))
+
+  second-has : has_vertex nodes k (nth_item items count).b ≡ true
+  second-has = subst (λ (z : List Item). has_vertex nodes k (nth_item z count).b ≡ true) (sym e) (item-vertex g nodes b.tree k (node_item nodes k count).b count l m (or_right ((node_item nodes k count).a == (node_item nodes k count).b) ((node_item nodes k count).b == (node_item nodes k count).b) (eq-eqb (node_item nodes k count).b (node_item nodes k count).b refl)))
+
+  differ : (nth_item items count).a ≢ (nth_item items count).b
+  differ q = let r = b.tree.in_order.ends_rise k count m in omega (arith, r, ap (λ (z : List Item). (nth_item z count).a) e, ap (λ (z : List Item). (nth_item z count).b) e, q)
+
+  small : (v : ℕ) → has_vertex nodes k v ≡ true → slice_index_or sums v 0 + count ≤ 2500050000
+  small v h = omega (arith, (old v h).1, end_sum-small (node_at nodes k).items v count few, few)
+
+  pub first-in : (nth_item items count).a < length sums
+  first-in = (old first_end first-has).0
+
+  pub first-small : slice_index_or sums (nth_item items count).a 0 + count ≤ 2500050000
+  first-small = small first_end first-has
+
+  pub second-in : (nth_item items count).b < length (slice_set sums (nth_item items count).a (slice_index_or sums (nth_item items count).a 0 + count))
+  second-in = subst (λ n. second_end < n) (sym (length-set sums first_end (slice_index_or sums first_end 0 + count))) ((old second_end second-has).0)
+
+  pub second-small : slice_index_or (slice_set sums (nth_item items count).a (slice_index_or sums (nth_item items count).a 0 + count)) (nth_item items count).b 0 + count ≤ 2500050000
+  second-small = subst (λ n. n + count ≤ 2500050000) (sym (get_or-set_other sums first_end second_end (slice_index_or sums first_end 0 + count) 0 (λ q. differ (sym q)))) (small second_end second-has)
+
+  pub item-added : AreEndSums nodes k (count + 1) (slice_set (slice_set sums (nth_item items count).a (slice_index_or sums (nth_item items count).a 0 + count)) (nth_item items count).b (slice_index_or (slice_set sums (nth_item items count).a (slice_index_or sums (nth_item items count).a 0 + count)) (nth_item items count).b 0 + count))
+  item-added = sums-more nodes k count sums old first_end second_end (ap (λ (z : List Item). (nth_item z count).a) e) (ap (λ (z : List Item). (nth_item z count).b) e) differ first-has second-has
+
 -- a polygon, with a rotation system of its skeleton
 module _ (g : Multigraph) (nodes : List Node) (b : IsBlockTree g nodes) (k : ℕ) (is : IsNodeOfKind nodes k S) (family : List (List (List ℕ))) (f : AreSkeletonSystems nodes family) (i v : ℕ) (m : IsItemEnd nodes k i v) where
   polygon : IsPolygon (skeleton (components nodes) k)
@@ -149,6 +193,24 @@ module _ (g : Multigraph) (nodes : List Node) (b : IsBlockTree g nodes) (k : ℕ
   pub polygon-sum : end_sum (node_at nodes k).items v (length (node_at nodes k).items) ≡ i + follower nodes family k i v
   polygon-sum = sum-two (length (node_at nodes k).items) (λ j. ends_item v (node_item nodes k j)) (λ j. j) i next m.is_item next-in.0 (λ e. differs (sym e)) both
 
+  -- what is read at the vertex
+  pub sum-in : (sums : List ℕ) → AreEndSums nodes k (length (node_at nodes k).items) sums → v < length sums
+  sum-in sums a = (a v has).0
+
+  pub sum-is : (sums : List ℕ) → AreEndSums nodes k (length (node_at nodes k).items) sums → slice_index_or sums v 0 ≡ i + follower nodes family k i v
+  sum-is sums a = (a v has).1 ∙ polygon-sum
+
   -- so the sum without the one is the other
-  pub other-is : (sum x : ℕ) → sum ≡ end_sum (node_at nodes k).items v (length (node_at nodes k).items) → x + i ≡ sum → x ≡ follower nodes family k i v
-  other-is sum x e h = omega (arith, polygon-sum, e, h)
+  pub other-is : (sums : List ℕ) → AreEndSums nodes k (length (node_at nodes k).items) sums → slice_index_or sums v 0 - i ≡ follower nodes family k i v
+  other-is sums a = omega (arith, sum-is sums a)
+
+  pub other-in : follower nodes family k i v < length (node_at nodes k).items
+  other-in = next-in.0
+
+  -- its dart that leaves the vertex
+  module _ (items : List Item) (e : items ≡ (node_at nodes k).items) (x : ℕ) (q : x ≡ follower nodes family k i v) where
+    pub leaves-first : (nth_item items x).a ≡ v → 2 * x ≡ dart_from (skeleton_graph nodes k) (place_of (node_at nodes k).vertices v) (follower nodes family k i v)
+    leaves-first h = ap (λ (t : Bool). if t then 2 * x else 2 * x + 1) (sym (eq-eqb (node_item nodes k x).a v (ap (λ (z : List Item). (nth_item z x).a) (sym e) ∙ h))) ∙ follower-dart g nodes b k is.0 family f i v m x q
+
+    pub leaves-second : (nth_item items x).a ≢ v → 2 * x + 1 ≡ dart_from (skeleton_graph nodes k) (place_of (node_at nodes k).vertices v) (follower nodes family k i v)
+    leaves-second n = ap (λ (t : Bool). if t then 2 * x else 2 * x + 1) (sym (ne_eqb (node_item nodes k x).a v (λ h. n (ap (λ (z : List Item). (nth_item z x).a) e ∙ h)))) ∙ follower-dart g nodes b k is.0 family f i v m x q

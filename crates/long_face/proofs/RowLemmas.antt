@@ -1,16 +1,32 @@
 -- How many items a node has, and how many numbers its darts.
-use Rattle.std.proofs.Common.{◌≡◌, ℕ, ◌*◌, ◌<◌, ◌≤◌, List, length, ap, ◌∙◌, subst, arith}
+use Rattle.std.proofs.Common.{◌≡◌, ◌≢◌, ℕ, ◌*◌, ◌<◌, ◌≤◌, ◌⊎◌, Bool, true, false, inl, inr, List, length, sym, ap, ◌∙◌, subst, arith}
+use Rattle.std.proofs.lemmas.Bool.{true≢false}
 use Rattle.std.proofs.lemmas.List.{length-map}
 use Rattle.multigraph.specs.Graph.{Multigraph, IsWithinLimits}
 use Rattle.pair_split.specs.Split.{items_of, piece_ends}
 use Rattle.pair_split.specs.Tutte.{Node, components, node_at, piece_of}
-use Rattle.pair_split.specs.declared.components.Kind.TheVariants.{P}
+use Rattle.pair_split.specs.declared.components.Kind.{Kind}
+use Rattle.pair_split.specs.declared.components.Kind.TheVariants.{S, P, R, B}
 use Rattle.pair_split.proofs.NodeParts.{node-pieces}
 use Rattle.skeletons.specs.Items.{IsBlockTree}
 use Rattle.skeletons.proofs.NodeItems.{edge-item}
 use Rattle.skeleton_runs.proofs.SkeletonGraph.{graph-edges, skeleton-limits}
 use Rattle.skeleton_planes.proofs.OneSystem.{kind-of}
 use Rattle.face_weights.specs.Numbers.{KnowFaces, numbers_at}
+
+-- whether a node of this kind is neither a polygon nor a bond
+is_other : Kind → Bool
+is_other S = false
+is_other P = false
+is_other R = true
+is_other B = true
+
+pub other-kind : (kind : Kind) → (kind ≡ R) ⊎ (kind ≡ B) → (kind ≢ S) × (kind ≢ P)
+unfolding is_other
+other-kind kind c = elim c [
+  | inl e ↦ (λ f. true≢false (sym (ap is_other e) ∙ ap is_other f), λ f. true≢false (sym (ap is_other e) ∙ ap is_other f))
+  | inr e ↦ (λ f. true≢false (sym (ap is_other e) ∙ ap is_other f), λ f. true≢false (sym (ap is_other e) ∙ ap is_other f))
+]
 
 module _ (g : Multigraph) (nodes : List Node) (b : IsBlockTree g nodes) (k : ℕ) (l : k < length nodes) where
   -- at most as many as a block has edges

@@ -22,7 +22,7 @@
 //   FaceLengths has-found, has-none: whether a face has a length; Asked one-side; Walked, Steps: the walk from the top; RowsMade known-ready; Final
 #![tactic(auto)]
 
-mod bonds;
+mod bond_faces;
 mod exchanged;
 mod finding;
 mod joining;

@@ -8,7 +8,7 @@ ghost use Rattle.skeletons.specs.Families.{AreSkeletonSystems, FollowsFamily, sk
 ghost use Rattle.face_weights.specs.Numbers.{KnowFaces, NumberFaces};
 ghost use Rattle.long_face.specs.Present.{HaveOtherSteps};
 
-use crate::bonds::bond_numbers;
+use crate::bond_faces::bond_numbers;
 use crate::polygons::polygon_steps;
 use face_weights::number_faces;
 use pair_split::Kind;

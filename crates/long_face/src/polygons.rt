@@ -66,12 +66,7 @@ fn onward(tree: &Tree, k: u32, sums: &[u32], i: u32, v: u32) -> u32
 }
 
 // Puts the face steps of the polygon k into `steps`, where the sums are known.
-fn steps_of(
-    tree: &Tree,
-    k: u32,
-    sums: &[u32],
-    steps: &mut Vec<u32>,
-) -> Result<(), AllocError>
+fn steps_of(tree: &Tree, k: u32, sums: &[u32], steps: &mut Vec<u32>) -> Result<(), AllocError>
     requires block { (g : Multigraph) × IsBlockTree g tree.now × IsWithinLimits g }
     requires polygon { IsNodeOfKind tree.now k S }
     requires sums { AreEndSums tree.now k (length (node_at tree.now k).items) sums.now }

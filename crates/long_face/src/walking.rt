@@ -138,7 +138,15 @@ pub(crate) fn wants_from(
         let own = if *k == top {
             Some(want_at_top(tree, faces, weights, &mut rows, top)?)
         } else {
-            want_under(tree, faces, weights, &mut rows, &wants, parents[*k as usize], *k)?
+            want_under(
+                tree,
+                faces,
+                weights,
+                &mut rows,
+                &wants,
+                parents[*k as usize],
+                *k,
+            )?
         };
         wants[*k as usize] = own;
     }

@@ -4,14 +4,10 @@ use Rattle.std.proofs.lemmas.Result.{IfOk-weaker}
 use Rattle.pair_split.specs.Tutte.{components}
 use Rattle.spqr_tree.specs.Keys.{AreOrdered}
 use Rattle.face_weights.specs.Weights.{weight_of}
+use Rattle.long_face.specs.Ready.{AreKnown}
 use Rattle.long_face.specs.Settled.{AreSettled}
 use Rattle.long_face.proofs.RowsMade.{known-ready}
 use Rattle.long_face.proofs.joining.wants_of.Goals as goal
-
-pub order_from-order-requires-clause-root : goal.order_from-order-requires-clause-root
-order_from-order-requires-clause-root c =
-    let known = c.requires.known in
-    omega (arith, c.top-top.ensures, known.2.top.node)
 
 pub wants_from-requires-clause-known : goal.wants_from-requires-clause-known
 wants_from-requires-clause-known c =
@@ -27,7 +23,7 @@ returns-clause-walked c =
     let top : c.top-top.result ≡ w.top = c.top-top.ensures in
     let one : c.deref.result.now ≡ c.order_from.new.parents = grind (arith, common_steps) in
     IfOk-weaker c.wants_from.result _ _ (λ wants h family know weights g b limits.
-    let known = record { block = b; limits = limits; numbers = know; weighed = weights } in
+    let known : AreKnown g tree family c.args.faces.now w = record { block = b; limits = limits; numbers = know; weighed = weights } in
     record {
       ready = known-ready g tree family c.args.faces.now w known;
       parents = c.deref.result.now;

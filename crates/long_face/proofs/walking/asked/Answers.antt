@@ -1,4 +1,4 @@
-use Rattle.std.proofs.Common.{◌≡◌, ◌+◌, ◌*◌, ◌<◌, ◌≤◌, true, false, List, [], length, sym, ap, ◌∙◌, subst, arith, Fits-lit}
+use Rattle.std.proofs.Common.{◌≡◌, ◌+◌, ◌*◌, ◌<◌, ◌≤◌, true, false, List, length, sym, ap, ◌∙◌, subst, arith, Fits-lit}
 use Rattle.std.proofs.Math.Facts.{Fits-le}
 use Rattle.pair_split.specs.Tutte.{node_at}
 use Rattle.pair_split.specs.declared.components.Item.{Item}
@@ -110,6 +110,12 @@ is_wanted-requires-clause-dart c =
     let places : length c.at-numbers.result.now ≡ 2 * length (node_at c.args.tree.now c.args.p).items =
     ap length c.at-numbers.ensures ∙ numbers-places y.0 c.args.tree.now y.2 c.args.p a.near y.1 c.args.faces.now y.4 in
     omega (arith, places, c.link_back-there.ensures.item)
+
+pub is_wanted-requires-2-clause-faces : goal.is_wanted-requires-2-clause-faces
+is_wanted-requires-2-clause-faces c =
+    let y = c.requires.known in
+    let a = c.requires.askable in
+    (skeleton_graph c.args.tree.now c.args.p, system_at y.1 c.args.p, numbers-tell (skeleton_graph c.args.tree.now c.args.p) (system_at y.1 c.args.p) c.at-numbers.result.now (row-numbers c.args.tree.now y.1 c.args.faces.now y.4 c.args.p a.near c.at-numbers.result.now c.at-numbers.ensures))
 
 pub is_wanted-requires-2-clause-few : goal.is_wanted-requires-2-clause-few
 is_wanted-requires-2-clause-few c =

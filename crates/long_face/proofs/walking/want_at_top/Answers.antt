@@ -4,7 +4,7 @@ use Rattle.pair_split.specs.declared.components.Kind.{Kind}
 use Rattle.face_weights.specs.Weights.{weight_of}
 use Rattle.skeleton_faces.specs.Faces.{IsSkeletonDart}
 use Rattle.long_face.specs.Heaviest.{IsGreatest, number_in}
-use Rattle.long_face.specs.Ready.{AreRowsOf}
+use Rattle.long_face.specs.Ready.{NodeRows, AreRowsOf}
 use Rattle.long_face.specs.Settled.{IsBest}
 use Rattle.long_face.proofs.RowLemmas.{items-few, items-some, items-several}
 use Rattle.long_face.proofs.RowsMade.{known-ready}
@@ -21,27 +21,27 @@ greatest_want-requires-clause-few c =
     let y = c.requires.known in
     let l : c.args.top < length c.args.tree.now = omega (arith, c.requires.top, y.2.weighed.top.node) in
     let row = c.in_ok-fill.ensures y.0 y.1 y.2 in
-    omega (arith, ap length c.deref.ensures.value, row.items, items-few y.0 c.args.tree.now y.2.block c.args.top l y.2.limits)
+    omega (arith, ap length c.deref.ensures.value, ap (λ (z : NodeRows). length z.weights) c.rows.view_is, row.items, items-few y.0 c.args.tree.now y.2.block c.args.top l y.2.limits)
 
 pub greatest_want-requires-clause-some : goal.greatest_want-requires-clause-some
 greatest_want-requires-clause-some c =
     let y = c.requires.known in
     let l : c.args.top < length c.args.tree.now = omega (arith, c.requires.top, y.2.weighed.top.node) in
     let row = c.in_ok-fill.ensures y.0 y.1 y.2 in
-    omega (arith, ap length c.deref.ensures.value, row.items, items-some y.0 c.args.tree.now y.2.block c.args.top l)
+    omega (arith, ap length c.deref.ensures.value, ap (λ (z : NodeRows). length z.weights) c.rows.view_is, row.items, items-some y.0 c.args.tree.now y.2.block c.args.top l)
 
 pub greatest_want-requires-clause-several : goal.greatest_want-requires-clause-several
 greatest_want-requires-clause-several c = λ e.
     let y = c.requires.known in
     let l : c.args.top < length c.args.tree.now = omega (arith, c.requires.top, y.2.weighed.top.node) in
     let row = c.in_ok-fill.ensures y.0 y.1 y.2 in
-    omega (arith, ap length c.deref.ensures.value, row.items, items-several y.0 c.args.tree.now y.2.block c.args.top l (sym c.kind.ensures ∙ e))
+    omega (arith, ap length c.deref.ensures.value, ap (λ (z : NodeRows). length z.weights) c.rows.view_is, row.items, items-several y.0 c.args.tree.now y.2.block c.args.top l (sym c.kind.ensures ∙ e))
 
 pub greatest_want-requires-clause-sums : goal.greatest_want-requires-clause-sums
 greatest_want-requires-clause-sums c =
     let y = c.requires.known in
     let row = c.in_ok-fill.ensures y.0 y.1 y.2 in
-    omega (arith, ap length c.deref.ensures.value, ap length c.deref-2.ensures.value, row.darts)
+    omega (arith, ap length c.deref.ensures.value, ap length c.deref-2.ensures.value, ap (λ (z : NodeRows). length z.weights) c.rows.view_is, ap (λ (z : NodeRows). length z.sums) c.rows.view_is, row.darts)
 
 pub returns : goal.returns
 returns c = λ g family y.
@@ -51,8 +51,8 @@ returns c = λ g family y.
     let rows = c.fill.new.rows in
     let top : c.args.top ≡ weighing.top = c.requires.top in
     let row : AreRowsOf tree family weight c.args.top rows = c.in_ok-fill.ensures g family y in
-    let weights : c.deref.result.now ≡ rows.weights = c.deref.ensures.value in
-    let sums : c.deref-2.result.now ≡ rows.sums = c.deref-2.ensures.value in
+    let weights : c.deref.result.now ≡ rows.weights = c.deref.ensures.value ∙ ap (λ (z : NodeRows). z.weights) c.rows.view_is in
+    let sums : c.deref-2.result.now ≡ rows.sums = c.deref-2.ensures.value ∙ ap (λ (z : NodeRows). z.sums) c.rows.view_is in
     let w = c.greatest_want.result in
     let kind = c.kind.result in
     subst (λ z. IsSkeletonDart tree z w.dart × IsBest tree family weight z w weighing.most) (sym top)

@@ -1,8 +1,7 @@
-use Rattle.std.proofs.Common.{◌≡◌, ◌≢◌, ◌+◌, ◌<◌, length, slice_index_or, sym, ◌∙◌, arith}
-use Rattle.permutations.specs.Members.{is_member}
+use Rattle.std.proofs.Common.{slice_index_or, ◌∙◌, arith}
 use Rattle.permutations.proofs.Arrangements.{member-at}
 use Rattle.long_face.proofs.BondNumbers.{order-once, order-long, item-of_key, none-written, written-more, all-written, key-after}
-use Rattle.long_face.proofs.bonds.number_pairs.Goals as goal
+use Rattle.long_face.proofs.bond_faces.number_pairs.Goals as goal
 
 -- the first key is that of an item
 pub item_with_key-here-requires-clause-held : goal.item_with_key-here-requires-clause-held
@@ -11,7 +10,7 @@ item_with_key-here-requires-clause-held c =
     item-of_key c.args.items.now c.requires.rising keys c.requires.all (slice_index_or keys 0 0) (member-at keys 0 0 (omega (arith, c.requires.some, order-long c.args.items.now c.requires.rising keys c.requires.all)))
 
 pub loop-place-init : goal.loop-place-init
-loop-place-init c = (none-written c.args.numbers.old c.requires.places, c.item_with_key-here.ensures.within, λ l. c.item_with_key-here.ensures.key)
+loop-place-init c = (none-written c.args.items.now c.requires.rising c.args.keys.now c.requires.all c.args.numbers.now c.requires.places, c.item_with_key-here.ensures.within, λ l. c.item_with_key-here.ensures.key)
 
 -- one item more
 pub loop-place-preserved : goal.loop-place-preserved
@@ -29,3 +28,6 @@ loop-place-preserved c =
 
 pub returns : goal.returns
 returns c = all-written c.args.items.now c.requires.rising c.args.keys.now c.requires.all c.loop-place.place c.loop-place.numbers (omega (arith, c.loop-place-test.false)) c.loop-place.invariant.0
+
+pub bounds-keys-0 : goal.bounds-keys-0
+bounds-keys-0 c = omega (arith, c.requires.some, order-long c.args.items.now c.requires.rising c.args.keys.now c.requires.all)
