@@ -51,7 +51,7 @@ pair-orbit n f g b z y e t = sym (orbit-kept n f g b (λ x. (x == z) || (x == f 
     ]
 
 -- the sum over two numbers
-sum-two : (n : ℕ) (s : ℕ → Bool) (w : ℕ → ℕ) (p q : ℕ) → p < n → q < n → p ≢ q → ((y : ℕ) → y < n → s y ≡ ((y == p) || (y == q))) → sum_of n s w ≡ w p + w q
+pub sum-two : (n : ℕ) (s : ℕ → Bool) (w : ℕ → ℕ) (p q : ℕ) → p < n → q < n → p ≢ q → ((y : ℕ) → y < n → s y ≡ ((y == p) || (y == q))) → sum_of n s w ≡ w p + w q
 sum-two n s w p q lp lq two is = omega (arith, above, below, rest)
   where
     sp : s p ≡ true

@@ -12,13 +12,13 @@ use Rattle.spqr_tree.specs.Keys.{AreOrdered}
 use Rattle.long_face.specs.Longest.{HasFace, IsLongest}
 use Rattle.long_face.specs.Laws.{WalkLeadsToLongest}
 use Rattle.long_face.specs.Moves.{moves_towards}
-use Rattle.long_face.specs.Ready.{NodeRows, IsReady}
+use Rattle.long_face.specs.Ready.{IsReady}
 use Rattle.long_face.specs.Settled.{has_want, want_or, want_at, AreSettled}
 use Rattle.long_face.specs.Wanted.{Want, IsPair, AreWanted, choice_wanted}
 use Rattle.long_face.proofs.FromTop.{are-wanted}
 use Rattle.long_face.proofs.Greatest.{table-bounds, wanted-reached, wanted-longest}
 
-module _ (g : Multigraph) (nodes : List Node) (family : List (List (List ℕ))) (weight : ℕ → ℕ → ℕ) (top most : ℕ) (rows : List NodeRows) (y : IsReady g nodes family weight top most rows) (parents order : List ℕ) (o : AreOrdered (components nodes) top parents order)
+module _ (g : Multigraph) (nodes : List Node) (family : List (List (List ℕ))) (weight : ℕ → ℕ → ℕ) (top most : ℕ) (y : IsReady g nodes family weight top most) (parents order : List ℕ) (o : AreOrdered (components nodes) top parents order)
     (once : is_distinct order ≡ true) (wants : List (Option Want)) (s : AreSettled nodes family weight top most parents wants) where
   -- the wanted faces fit together
   wanted : AreWanted nodes family weight top most (λ k. has_want (want_at wants k)) (λ k. want_or (want_at wants k)) (place_of order)
@@ -37,4 +37,4 @@ module _ (g : Multigraph) (nodes : List Node) (family : List (List (List ℕ))) 
 
 -- the law
 pub walk-longest : WalkLeadsToLongest
-walk-longest g nodes r family weight top most rows parents order wants y p follows ones o once s lacks = walked-longest g nodes family weight top most rows y parents order o once wants s r p follows ones lacks
+walk-longest g nodes r family weight top most parents order wants y p follows ones o once s lacks = walked-longest g nodes family weight top most y parents order o once wants s r p follows ones lacks

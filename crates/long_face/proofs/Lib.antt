@@ -14,5 +14,7 @@ pub mod Steps
 pub mod RowLemmas
 pub mod Final
 pub mod RowsMade
+pub mod BondNumbers
+pub mod PolygonSteps
 pub mod LinkSearch
 pub mod FaceLengths

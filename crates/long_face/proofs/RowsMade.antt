@@ -1,7 +1,5 @@
 -- The rows of the nodes, and that all is ready for the walk.
-use Rattle.std.proofs.Common.{◌≡◌, ℕ, ◌+◌, ◌*◌, ◌/◌, ◌<◌, ◌≤◌, cond, List, [], ◌∷◌, ◌++◌, length, slice_index_or, inl, inr, refl, sym, ap, ◌∙◌, subst, arith}
-use Rattle.std.proofs.lemmas.Bool.{cases_eq}
-use Rattle.std.proofs.lemmas.List.{length-append, get_or_push, get_or_append_left}
+use Rattle.std.proofs.Common.{◌≡◌, ℕ, ◌*◌, ◌/◌, ◌<◌, ◌≤◌, cond, List, [], length, slice_index_or, refl, sym, ap, ◌∙◌, subst}
 use Rattle.permutations.specs.Count.{sum_below}
 use Rattle.permutations.proofs.Sums.{sum_below-ext}
 use Rattle.multigraph.specs.Graph.{Multigraph, IsWithinLimits, edge_count, max_edges}
@@ -20,7 +18,7 @@ use Rattle.face_weights.specs.Numbers.{NumberFaces}
 use Rattle.face_weights.specs.Reached.{AreWeights}
 use Rattle.face_weights.proofs.NodeCode.{weights-few}
 use Rattle.long_face.specs.Numbers.{AreFaceNumbers}
-use Rattle.long_face.specs.Ready.{NodeRows, rows_at, AreRowsOf, IsReady}
+use Rattle.long_face.specs.Ready.{AreRowsOf, AreKnown, IsReady}
 
 module _ (g : Multigraph) (nodes : List Node) (b : IsBlockTree g nodes) (limits : IsWithinLimits g) (family : List (List (List ℕ))) (systems : AreSkeletonSystems nodes family) (w : Weighing) (a : AreWeights nodes family w) where
   module _ (k : ℕ) (l : k < length nodes) (weights : List ℕ) (number : length weights ≡ length (node_at nodes k).items) (each : (i : ℕ) → i < length (node_at nodes k).items → weight_in weights i ≡ weight_of nodes w k i) where
@@ -36,21 +34,18 @@ module _ (g : Multigraph) (nodes : List Node) (b : IsBlockTree g nodes) (limits 
     row-light = subst (λ n. sum_below n (weight_in weights) ≤ 2 * max_edges) (sym row-number) row-few
 
     -- the rows
-    pub row-are : (sums numbers : List ℕ) → AreFaceSums (skeleton_graph nodes k) (system_at family k) weights sums → AreFaceNumbers (skeleton_graph nodes k) (system_at family k) numbers
-        → AreRowsOf nodes family (weight_of nodes w) k (record { weights = weights; sums = sums; numbers = numbers })
-    row-are sums numbers s n = record {
+    pub row-are : (sums : List ℕ) → AreFaceSums (skeleton_graph nodes k) (system_at family k) weights sums → AreRowsOf nodes family (weight_of nodes w) k (record { weights = weights; sums = sums })
+    row-are sums s = record {
       items = number;
       weights = each;
       darts = s.number ∙ ap (λ z. 2 * z) (sym row-number);
       sums = λ d m. s.each d m ∙ sum_below-ext (dart_count (skeleton_graph nodes k)) (λ y. cond (on_one_face (skeleton_graph nodes k) (system_at family k) d y) (weight_in weights (y / 2)) 0) (λ y. cond (on_one_face (skeleton_graph nodes k) (system_at family k) d y) (weight_of nodes w k (y / 2)) 0)
           (λ y c. ap (λ z. cond (on_one_face (skeleton_graph nodes k) (system_at family k) d y) z 0) (each (y / 2) (dart-item g nodes b k l y c)));
-      numbers = n;
     }
 
   -- all is ready
-  pub all-ready : ((k : ℕ) → k < length nodes → IsPlane (skeleton_graph nodes k) (system_at family k)) → (rows : List NodeRows) → length rows ≡ length nodes → ((k : ℕ) → k < length nodes → AreRowsOf nodes family (weight_of nodes w) k (rows_at rows k))
-      → IsReady g nodes family (weight_of nodes w) w.top w.most rows
-  all-ready plane rows places each = record {
+  pub all-ready : ((k : ℕ) → k < length nodes → IsPlane (skeleton_graph nodes k) (system_at family k)) → IsReady g nodes family (weight_of nodes w) w.top w.most
+  all-ready plane = record {
     block = b;
     limits = limits;
     systems = systems;
@@ -61,8 +56,6 @@ module _ (g : Multigraph) (nodes : List Node) (b : IsBlockTree g nodes) (limits 
     top_in = a.top.node;
     face = a.top.face;
     pair = a.top.pair;
-    places = places;
-    each = each;
   }
 
 -- the steps of a node as they are read
@@ -71,16 +64,9 @@ pub row-steps : (nodes : List Node) (family : List (List (List ℕ))) (rows : Li
 row-steps nodes family rows steps k l seen q = subst (AreFaceSteps (skeleton_graph nodes k) (system_at family k)) (sym q) (steps.steps k l)
 
 -- they are numbers of faces
-pub row-tells : (g : Multigraph) (r : List (List ℕ)) (numbers copy : List ℕ) → NumberFaces g r numbers → copy ≡ numbers → AreFaceNumbers g r copy
-row-tells g r numbers copy n e = subst (AreFaceNumbers g r) (sym e) (record { places = n.darts; same = n.same })
+pub numbers-tell : (g : Multigraph) (r : List (List ℕ)) (numbers : List ℕ) → NumberFaces g r numbers → AreFaceNumbers g r numbers
+numbers-tell g r numbers n = record { places = n.darts; same = n.same }
 
--- one row more
-pub rows-more : (IsRow : ℕ → NodeRows → Type 0) (rows new : List NodeRows) (row : NodeRows) (k : ℕ) → (length rows ≡ k) × ((j : ℕ) → j < k → IsRow j (rows_at rows j)) → new ≡ rows ++ row ∷ [] → IsRow k row → (length new ≡ k + 1) × ((j : ℕ) → j < k + 1 → IsRow j (rows_at new j))
-rows-more IsRow rows new row k old e is = (ap length e ∙ length-append rows (row ∷ []) ∙ ap (λ n. n + 1) old.0, each)
-  where
-    each : (j : ℕ) → j < k + 1 → IsRow j (rows_at new j)
-    each j l = elim (cases_eq j k) [
-      | inl q ↦ subst (λ z. IsRow z (rows_at new z)) (sym q) (subst (IsRow k) (sym (ap (λ (z : List NodeRows). rows_at z k) e ∙ get_or_push rows row (record { weights = []; sums = []; numbers = [] }) k old.0)) is)
-      | inr n ↦ let m : j < k = omega (arith, l, n) in
-          subst (IsRow j) (sym (ap (λ (z : List NodeRows). rows_at z j) e ∙ get_or_append_left rows (row ∷ []) (record { weights = []; sums = []; numbers = [] }) j (omega (arith, m, old.0)))) (old.1 j m)
-    ]
+-- what is known is ready for the walk
+pub known-ready : (g : Multigraph) (nodes : List Node) (family : List (List (List ℕ))) (faces : List (List ℕ)) (w : Weighing) → AreKnown g nodes family faces w → IsReady g nodes family (weight_of nodes w) w.top w.most
+known-ready g nodes family faces w y = all-ready g nodes y.block y.limits family y.numbers.systems w y.weighed y.numbers.plane

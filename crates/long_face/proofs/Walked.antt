@@ -5,16 +5,17 @@ use Rattle.std.proofs.lemmas.Bool.{both_ways, true≢false}
 use Rattle.multigraph.specs.Graph.{Multigraph}
 use Rattle.dart_maps.specs.Map.{twin}
 use Rattle.dart_maps.proofs.Darts.{twin-even, twin-edge, twin-twin}
-use Rattle.faces.specs.Euler.{dart_count}
+use Rattle.faces.specs.Euler.{dart_count, IsPlane}
 use Rattle.pair_split.specs.Tutte.{Node, node_at, node_item}
 use Rattle.pair_split.specs.declared.components.Kind.TheVariants.{P}
 use Rattle.pair_split.specs.declared.components.What.TheVariants.{Link}
-use Rattle.skeletons.specs.Families.{skeleton_graph, system_at}
+use Rattle.skeletons.specs.Items.{IsBlockTree}
+use Rattle.skeletons.specs.Families.{skeleton_graph, system_at, AreSkeletonSystems}
 use Rattle.skeleton_planes.proofs.SkeletonDarts.{dart-item}
 use Rattle.skeleton_faces.specs.Faces.{IsSkeletonDart, AreAcross}
 use Rattle.long_face.specs.Wanted.{Want, IsPair, on_wanted}
 use Rattle.long_face.specs.Heaviest.{IsGreatest, IsHeaviest, number_in}
-use Rattle.long_face.specs.Ready.{NodeRows, AreRowsOf, IsReady, rows_at}
+use Rattle.long_face.specs.Ready.{NodeRows, AreRowsOf, IsReady}
 use Rattle.long_face.specs.Settled.{IsBest, IsSettled}
 use Rattle.long_face.specs.Walk.{IsAskable, IsAsked}
 use Rattle.long_face.proofs.Asked.{across-first, across-second, across-cases, one-side}
@@ -38,7 +39,7 @@ same : (c d : ℕ) → Some c ≡ Some d → c ≡ d
 unfolding got
 same c d e = ap got e
 
-module _ (g : Multigraph) (nodes : List Node) (family : List (List (List ℕ))) (weight : ℕ → ℕ → ℕ) (top most : ℕ) (rows : List NodeRows) (y : IsReady g nodes family weight top most rows)
+module _ (g : Multigraph) (nodes : List Node) (b : IsBlockTree g nodes) (family : List (List (List ℕ))) (systems : AreSkeletonSystems nodes family) (plane : (k : ℕ) → k < length nodes → IsPlane (skeleton_graph nodes k) (system_at family k))
     (p k : ℕ) (above : Want) (a : IsAskable nodes p k above) where
   -- the link and the link back
   module _ (i h : ℕ) (mi : i < length (node_at nodes p).items) (mh : h < length (node_at nodes k).items) (to : (node_item nodes p i).what ≡ Link k) (from : (node_item nodes k h).what ≡ Link p) where
@@ -48,10 +49,10 @@ module _ (g : Multigraph) (nodes : List Node) (family : List (List (List ℕ))) 
 
     -- not both
     one : wanted (2 * i) ≡ true → wanted (2 * i + 1) ≡ true → ⊥
-    one s t = one-side g nodes y.block family y.systems y.plane p k i h a.near a.far mi mh to from (Some above) (λ e q. a.pair e) (refl, s) (refl, t)
+    one s t = one-side g nodes b family systems plane p k i h a.near a.far mi mh to from (Some above) (λ e q. a.pair e) (refl, s) (refl, t)
 
     cases : (x e : ℕ) → AreAcross nodes p x k e → ((x ≡ 2 * i) × (e ≡ 2 * h)) ⊎ ((x ≡ 2 * i + 1) × (e ≡ 2 * h + 1))
-    cases x e c = across-cases g nodes y.block family y.systems y.plane p k i h a.near a.far mi mh to from x e c
+    cases x e c = across-cases g nodes b family systems plane p k i h a.near a.far mi mh to from x e c
 
     twin-first : twin (2 * h) ≡ 2 * h + 1
     twin-first = twin-even (2 * h) (omega arith)
@@ -66,7 +67,7 @@ module _ (g : Multigraph) (nodes : List Node) (family : List (List (List ℕ))) 
         | inl q ↦ ap Some (sym (ap twin q.1 ∙ twin-first))
         | inr q ↦ absurd (one s (subst (λ z. wanted z ≡ true) q.0 v.1))
       ];
-      source = λ d q. (2 * i, 2 * h, across-first g nodes y.block family y.systems y.plane p k i h a.near a.far mi mh to from, (refl, s), sym (same (2 * h + 1) d q) ∙ sym twin-first);
+      source = λ d q. (2 * i, 2 * h, across-first g nodes b family systems plane p k i h a.near a.far mi mh to from, (refl, s), sym (same (2 * h + 1) d q) ∙ sym twin-first);
     }
 
     -- by the second
@@ -76,7 +77,7 @@ module _ (g : Multigraph) (nodes : List Node) (family : List (List (List ℕ))) 
         | inl q ↦ absurd (one (subst (λ z. wanted z ≡ true) q.0 v.1) s)
         | inr q ↦ ap Some (sym (ap twin q.1 ∙ twin-second))
       ];
-      source = λ d q. (2 * i + 1, 2 * h + 1, across-second g nodes y.block family y.systems y.plane p k i h a.near a.far mi mh to from, (refl, s), sym (same (2 * h) d q) ∙ sym twin-second);
+      source = λ d q. (2 * i + 1, 2 * h + 1, across-second g nodes b family systems plane p k i h a.near a.far mi mh to from, (refl, s), sym (same (2 * h) d q) ∙ sym twin-second);
     }
 
     -- by none
@@ -90,26 +91,22 @@ module _ (g : Multigraph) (nodes : List Node) (family : List (List (List ℕ))) 
     }
 
   -- a node of which nothing is asked wants nothing
-  pub settled-none : IsAsked nodes family p above k None → IsSettled nodes family weight p (Some above) k None
-  settled-none o = record { forced = λ x e c v. absurd (apart (twin e) (o.forced x e c v)); source = λ h. absurd (true≢false (sym h)) }
+  pub settled-none : (weight : ℕ → ℕ → ℕ) → IsAsked nodes family p above k None → IsSettled nodes family weight p (Some above) k None
+  settled-none weight o = record { forced = λ x e c v. absurd (apart (twin e) (o.forced x e c v)); source = λ h. absurd (true≢false (sym h)) }
 
-  -- another the heaviest face of the dart
-  pub settled-some : (dart : ℕ) (w : Want) → IsAsked nodes family p above k (Some dart)
-      → IsHeaviest (node_at nodes k).kind (length (rows_at rows k).weights) (number_in (rows_at rows k).weights) (number_in (rows_at rows k).sums) dart w → IsSettled nodes family weight p (Some above) k (Some w)
+-- another the heaviest face of the dart
+module _ (g : Multigraph) (nodes : List Node) (family : List (List (List ℕ))) (weight : ℕ → ℕ → ℕ) (top most : ℕ) (y : IsReady g nodes family weight top most) (p k : ℕ) (above : Want) (a : IsAskable nodes p k above)
+    (rows : NodeRows) (row : AreRowsOf nodes family weight k rows) where
+  pub settled-some : (dart : ℕ) (w : Want) → IsAsked nodes family p above k (Some dart) → IsHeaviest (node_at nodes k).kind (length rows.weights) (number_in rows.weights) (number_in rows.sums) dart w
+      → IsSettled nodes family weight p (Some above) k (Some w)
   settled-some dart w o m = record {
     forced = λ x e c v. (refl, m.same ∙ same dart (twin e) (o.forced x e c v));
     source = λ h. let s = o.source dart refl in
-        (s.0, s.1, s.2, s.3, m.same ∙ s.4, best-below g nodes y.block family y.systems y.plane weight most y.table p s.0 k s.1 s.2 (y.links p s.0 k s.1 s.2) (y.bond_links p s.0 k s.1 s.2) w (number_in (rows_at rows k).sums) row.sums (heaviest s.1 s.4 (s.2.second.1)));
+        (s.0, s.1, s.2, s.3, m.same ∙ s.4, best-below g nodes y.block family y.systems y.plane weight most y.table p s.0 k s.1 s.2 (y.links p s.0 k s.1 s.2) (y.bond_links p s.0 k s.1 s.2) w (number_in rows.sums) row.sums (heaviest s.1 s.4 (s.2.second.1)));
   }
     where
-      row : AreRowsOf nodes family weight k (rows_at rows k)
-      row = y.each k a.far
-
-      weights : List ℕ
-      weights = (rows_at rows k).weights
-
-      heaviest : (e : ℕ) → dart ≡ twin e → e < dart_count (skeleton_graph nodes k) → IsHeaviest (node_at nodes k).kind (length (node_at nodes k).items) (weight k) (number_in (rows_at rows k).sums) (twin e) w
-      heaviest e q l = subst (λ z. IsHeaviest (node_at nodes k).kind (length (node_at nodes k).items) (weight k) (number_in (rows_at rows k).sums) z w) q (record {
+      heaviest : (e : ℕ) → dart ≡ twin e → e < dart_count (skeleton_graph nodes k) → IsHeaviest (node_at nodes k).kind (length (node_at nodes k).items) (weight k) (number_in rows.sums) (twin e) w
+      heaviest e q l = subst (λ z. IsHeaviest (node_at nodes k).kind (length (node_at nodes k).items) (weight k) (number_in rows.sums) z w) q (record {
         same = m.same;
         pair = pair;
         bounds = λ b h u n. let c = m.bounds b h (subst (λ z. h < z) (sym row.items) u) n in
@@ -127,18 +124,15 @@ module _ (g : Multigraph) (nodes : List Node) (family : List (List (List ℕ))) 
           item = subst (λ z. z < length (node_at nodes k).items) (sym (ap (λ z. z / 2) q ∙ twin-edge e)) (dart-item g nodes y.block k a.far e l)
 
 -- the heaviest face of the top
-pub greatest-top : (g : Multigraph) (nodes : List Node) (family : List (List (List ℕ))) (weight : ℕ → ℕ → ℕ) (top most : ℕ) (rows : List NodeRows) → IsReady g nodes family weight top most rows → (w : Want)
-    → IsGreatest (node_at nodes top).kind (length (rows_at rows top).weights) (number_in (rows_at rows top).weights) (number_in (rows_at rows top).sums) w → IsSkeletonDart nodes top w.dart × IsBest nodes family weight top w most
-greatest-top g nodes family weight top most rows y w o =
-    (top-dart g nodes y.block family y.systems y.plane weight most y.table top y.top_in w (number_in (rows_at rows top).sums) row.sums y.face y.pair exact, best-top g nodes y.block family y.systems y.plane weight most y.table top y.top_in w (number_in (rows_at rows top).sums) row.sums y.face y.pair exact)
+pub greatest-top : (g : Multigraph) (nodes : List Node) (family : List (List (List ℕ))) (weight : ℕ → ℕ → ℕ) (top most : ℕ) → IsReady g nodes family weight top most → (rows : NodeRows) → AreRowsOf nodes family weight top rows → (w : Want)
+    → IsGreatest (node_at nodes top).kind (length rows.weights) (number_in rows.weights) (number_in rows.sums) w → IsSkeletonDart nodes top w.dart × IsBest nodes family weight top w most
+greatest-top g nodes family weight top most y rows row w o =
+    (top-dart g nodes y.block family y.systems y.plane weight most y.table top y.top_in w (number_in rows.sums) row.sums y.face y.pair exact, best-top g nodes y.block family y.systems y.plane weight most y.table top y.top_in w (number_in rows.sums) row.sums y.face y.pair exact)
   where
-    row : AreRowsOf nodes family weight top (rows_at rows top)
-    row = y.each top y.top_in
-
     pair : (node_at nodes top).kind ≡ P → IsPair (length (node_at nodes top).items) w
     pair b = subst (λ z. IsPair z w) row.items (o.pair b)
 
-    exact : IsGreatest (node_at nodes top).kind (length (node_at nodes top).items) (weight top) (number_in (rows_at rows top).sums) w
+    exact : IsGreatest (node_at nodes top).kind (length (node_at nodes top).items) (weight top) (number_in rows.sums) w
     exact = record {
       pair = pair;
       pairs = λ b i h u v n. let c = o.pairs b i h (subst (λ z. i < z) (sym row.items) u) (subst (λ z. h < z) (sym row.items) v) n in

@@ -13,7 +13,7 @@ use Rattle.long_face.specs.Longest.{HasFace, NoneLonger, IsLongest}
 use Rattle.spqr_tree.specs.Keys.{AreOrdered}
 use Rattle.long_face.specs.Wanted.{Want, AreWanted, choice_wanted}
 use Rattle.long_face.specs.Moves.{moves_towards}
-use Rattle.long_face.specs.Ready.{NodeRows, IsReady}
+use Rattle.long_face.specs.Ready.{IsReady}
 use Rattle.long_face.specs.Settled.{has_want, want_or, want_at, AreSettled}
 
 -- where the weights bound the faces of the skeletons, they bound those of every plane rotation system of the block
@@ -31,7 +31,7 @@ WantedIsReached = (g : Multigraph) (nodes : List Node) (r : List (List ℕ)) (fa
 -- where each node wants the heaviest face of the dart that its parent asks for, from the top on, the moves towards the wanted choices
 -- lead from r, which has no face of this length, to a longest face
 abbrev pub WalkLeadsToLongest : Type 0
-WalkLeadsToLongest = (g : Multigraph) (nodes : List Node) (r : List (List ℕ)) (family : List (List (List ℕ))) (weight : ℕ → ℕ → ℕ) (top most : ℕ) (rows : List NodeRows) (parents order : List ℕ) (wants : List (Option Want))
-    → IsReady g nodes family weight top most rows → IsPlaneSystem g r → FollowsFamily nodes family r → EdgesWeighOne nodes weight → AreOrdered (components nodes) top parents order → is_distinct order ≡ true
+WalkLeadsToLongest = (g : Multigraph) (nodes : List Node) (r : List (List ℕ)) (family : List (List (List ℕ))) (weight : ℕ → ℕ → ℕ) (top most : ℕ) (parents order : List ℕ) (wants : List (Option Want))
+    → IsReady g nodes family weight top most → IsPlaneSystem g r → FollowsFamily nodes family r → EdgesWeighOne nodes weight → AreOrdered (components nodes) top parents order → is_distinct order ≡ true
     → AreSettled nodes family weight top most parents wants → (HasFace g r most → ⊥)
     → IsLongest g nodes r most (moves_towards nodes r (choice_wanted nodes r (λ k. has_want (want_at wants k)) (λ k. want_or (want_at wants k))) (length nodes))

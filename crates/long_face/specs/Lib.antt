@@ -6,5 +6,8 @@ pub mod Settled
 pub mod Numbers
 pub mod Heaviest
 pub mod Ready
+pub mod Bonds
+pub mod Polygons
+pub mod Present
 pub mod Walk
 pub mod Moves

@@ -1,5 +1,5 @@
 -- What is known of each node before anything is wanted.
-use Rattle.std.specs.Prelude.{◌≡◌, ◌≢◌, ℕ, ◌+◌, ◌*◌, ◌/◌, ◌<◌, List, [], length, slice_index_or}
+use Rattle.std.specs.Prelude.{◌≡◌, ◌≢◌, ℕ, ◌+◌, ◌*◌, ◌/◌, ◌<◌, List, length}
 use Rattle.multigraph.specs.Graph.{Multigraph, IsWithinLimits}
 use Rattle.faces.specs.Euler.{dart_count, IsPlane}
 use Rattle.pair_split.specs.Tutte.{Node, node_at}
@@ -8,18 +8,15 @@ use Rattle.skeletons.specs.Items.{IsBlockTree}
 use Rattle.skeletons.specs.Families.{skeleton_graph, system_at, AreSkeletonSystems}
 use Rattle.skeleton_faces.specs.Faces.{skeleton_weight, IsSkeletonDart, AreAcross}
 use Rattle.skeleton_faces.specs.Tables.{IsTable}
+use Rattle.face_weights.specs.Numbers.{KnowFaces}
+use Rattle.face_weights.specs.Reached.{AreWeights}
+use Rattle.face_weights.specs.Weights.{Weighing}
 use Rattle.long_face.specs.Heaviest.{number_in}
-use Rattle.long_face.specs.Numbers.{AreFaceNumbers}
 
--- the weights of the items of a node, the weights of the faces of its darts, and the numbers of these faces
+-- the weights of the items of a node, and those of the faces of its darts
 pub record NodeRows : Type 0 where
   pub weights : List ℕ
   pub sums : List ℕ
-  pub numbers : List ℕ
-
--- those of node k
-abbrev pub rows_at : List NodeRows → ℕ → NodeRows
-rows_at rows k = slice_index_or rows k (record { weights = []; sums = []; numbers = [] })
 
 -- they are those of node k
 pub record AreRowsOf (nodes : List Node) (family : List (List (List ℕ))) (weight : ℕ → ℕ → ℕ) (k : ℕ) (rows : NodeRows) : Type 0 where
@@ -27,11 +24,21 @@ pub record AreRowsOf (nodes : List Node) (family : List (List (List ℕ))) (weig
   pub weights : (i : ℕ) → i < length (node_at nodes k).items → number_in rows.weights i ≡ weight k i
   pub darts : length rows.sums ≡ 2 * length rows.weights
   pub sums : (d : ℕ) → d < dart_count (skeleton_graph nodes k) → number_in rows.sums d ≡ skeleton_weight nodes family weight k d
-  pub numbers : AreFaceNumbers (skeleton_graph nodes k) (system_at family k) rows.numbers
+
+-- the faces of the skeletons of a block's tree by their numbers, and weights that bound them
+pub record AreKnown (g : Multigraph) (nodes : List Node) (family : List (List (List ℕ))) (faces : List (List ℕ)) (w : Weighing) : Type 0 where
+  pub block : IsBlockTree g nodes
+  pub limits : IsWithinLimits g
+  pub numbers : KnowFaces nodes family faces
+  pub weighed : AreWeights nodes family w
+
+-- so they are, for some graph and family
+abbrev pub AreSomeKnown : List Node → List (List ℕ) → Weighing → Type 0
+AreSomeKnown nodes faces w = (g : Multigraph) × (family : List (List (List ℕ))) × AreKnown g nodes family faces w
 
 -- a block with its tree, and weights that bound the faces of the skeletons and are reached: of each link by a face at the other end of
 -- the link, and the greatest at the top
-pub record IsReady (g : Multigraph) (nodes : List Node) (family : List (List (List ℕ))) (weight : ℕ → ℕ → ℕ) (top most : ℕ) (rows : List NodeRows) : Type 0 where
+pub record IsReady (g : Multigraph) (nodes : List Node) (family : List (List (List ℕ))) (weight : ℕ → ℕ → ℕ) (top most : ℕ) : Type 0 where
   pub block : IsBlockTree g nodes
   pub limits : IsWithinLimits g
   pub systems : AreSkeletonSystems nodes family
@@ -42,5 +49,3 @@ pub record IsReady (g : Multigraph) (nodes : List Node) (family : List (List (Li
   pub top_in : top < length nodes
   pub face : (node_at nodes top).kind ≢ P → (d : ℕ) × IsSkeletonDart nodes top d × (skeleton_weight nodes family weight top d ≡ most)
   pub pair : (node_at nodes top).kind ≡ P → (i : ℕ) × (h : ℕ) × (i < length (node_at nodes top).items) × (h < length (node_at nodes top).items) × (i ≢ h) × (weight top i + weight top h ≡ most)
-  pub places : length rows ≡ length nodes
-  pub each : (k : ℕ) → k < length nodes → AreRowsOf nodes family weight k (rows_at rows k)

@@ -8,13 +8,9 @@ use Rattle.pair_split.specs.declared.components.What.TheVariants.{Link}
 use Rattle.skeleton_faces.specs.Faces.{IsSkeletonDart, AreAcross}
 use Rattle.spqr_tree.specs.Keys.{parent_at, AreOrdered}
 use Rattle.long_face.specs.Wanted.{Want, IsPair}
-use Rattle.long_face.specs.Ready.{NodeRows, IsReady}
+use Rattle.long_face.specs.Ready.{IsReady}
 use Rattle.long_face.specs.Settled.{has_want, want_or, want_at, IsBest, IsWantedAt, IsSettled, AreSettled}
 use Rattle.permutations.specs.Members.{is_distinct}
-
--- all is ready, for some family and weights
-abbrev pub IsSomeReady : List Node → List NodeRows → Type 0
-IsSomeReady nodes rows = (g : Multigraph) × (family : List (List (List ℕ))) × (weight : ℕ → ℕ → ℕ) × (top : ℕ) × (most : ℕ) × IsReady g nodes family weight top most rows
 
 -- what is wanted of node p is a face of it, and p and k are linked
 pub record IsAskable (nodes : List Node) (p k : ℕ) (above : Want) : Type 0 where
@@ -42,8 +38,7 @@ pub record AreSettledUpTo (nodes : List Node) (family : List (List (List ℕ))) 
 
 -- what is wanted of the nodes, after the walk from the top
 pub record IsWalked (g : Multigraph) (nodes : List Node) (family : List (List (List ℕ))) (weight : ℕ → ℕ → ℕ) (top most : ℕ) (wants : List (Option Want)) : Type 0 where
-  pub rows : List NodeRows
-  pub ready : IsReady g nodes family weight top most rows
+  pub ready : IsReady g nodes family weight top most
   pub parents : List ℕ
   pub order : List ℕ
   pub ordered : AreOrdered (components nodes) top parents order

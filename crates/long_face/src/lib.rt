@@ -19,9 +19,10 @@
 //   Bonds      bond-next, bond-face, bond-sum: the faces of a bond by its choice; Possible: choices that are possible
 //   Reached    reached: wanted faces are faces of some plane rotation system; Greatest table-bounds, wanted-reached
 //   FromTop    are-wanted: each node wants what its parent asks for; Best best-below: the heaviest face weighs enough
-//   FaceLengths has-found, has-none: whether a face has a length; Asked one-side; Walked, Steps: the walk from the top; RowsMade all-ready; Final
+//   FaceLengths has-found, has-none: whether a face has a length; Asked one-side; Walked, Steps: the walk from the top; RowsMade known-ready; Final
 #![tactic(auto)]
 
+mod bond_faces;
 mod exchanged;
 mod finding;
 mod joining;
@@ -29,6 +30,7 @@ mod laws;
 mod links;
 mod moving;
 mod numbers;
+mod polygons;
 mod present;
 mod rows;
 mod walking;

@@ -26,7 +26,7 @@ pub(crate) fn link_to(items: &[Item], j: u32) -> u32
 }
 
 // The place of the item with this key among items in increasing order of their keys, by binary search.
-fn item_with_key(items: &[Item], key: u32) -> u32
+pub(crate) fn item_with_key(items: &[Item], key: u32) -> u32
     requires rising { Rises (map item_key items.now) }
     requires few { length items.now < 2 ^ 32 }
     requires held { (i : ℕ) × (i < length items.now) × ((nth_item items.now i).key ≡ key) }

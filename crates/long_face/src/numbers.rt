@@ -1,44 +1,101 @@
-// The faces of the skeletons, by the numbers of their darts.
+// The faces of the skeletons, by the numbers of their darts: those of bonds from the kept choices, those of polygons from their items, and
+// those of other nodes from the face steps that are read off the rotation system, which is done only where there are such nodes.
 
-ghost use Rattle.std.specs.Prelude.{◌<◌, ℕ, List, length, IfOk};
-ghost use Rattle.multigraph.specs.Graph.{IsWithinLimits, Multigraph};
-ghost use Rattle.faces.specs.Euler.{IsPlane};
+ghost use Rattle.std.specs.Prelude.{◌≡◌, ◌<◌, ◌⊎◌, ℕ, false, List, length, IfOk};
+ghost use Rattle.pair_split.specs.Tutte.{node_at};
+ghost use Rattle.pair_split.specs.declared.components.Kind.TheVariants.{S, P};
 ghost use Rattle.skeletons.specs.Families.{AreSkeletonSystems, FollowsFamily, skeleton_graph, system_at};
-ghost use Rattle.skeletons.specs.Items.{IsBlockTree};
-ghost use Rattle.skel_decompose.specs.Followers.{AreStepsOf};
-ghost use Rattle.face_weights.specs.Numbers.{KnowFaces};
+ghost use Rattle.face_weights.specs.Numbers.{KnowFaces, NumberFaces};
+ghost use Rattle.long_face.specs.Present.{HaveOtherSteps};
 
+use crate::bond_faces::bond_numbers;
+use crate::polygons::polygon_steps;
 use face_weights::number_faces;
+use pair_split::Kind;
 use skel_decompose::{FlatLists, face_steps};
 use skel_embed::PlaneBlock;
 use spqr_tree::Tree;
 use std::alloc::{AllocError, Global};
 
-// The numbers of the darts of each node, from the face steps of the skeletons. In linear time. Fails only if memory runs out.
-fn numbers_of(alloc: Global, tree: &Tree, steps: &FlatLists) -> Result<FlatLists, AllocError>
-    requires block { (g : Multigraph) × IsBlockTree g tree.now × IsWithinLimits g }
-    requires steps { (family : List (List (List ℕ))) × AreSkeletonSystems tree.now family
-        × AreStepsOf tree.now family steps.now }
-    ensures { IfOk result (λ faces. (family : List (List (List ℕ))) → AreSkeletonSystems tree.now family
-        → ((k : ℕ) → k < length tree.now → IsPlane (skeleton_graph tree.now k) (system_at family k))
-        → AreStepsOf tree.now family steps.now → KnowFaces tree.now family faces) }
+// Whether the face steps of node k are read off the rotation system.
+fn is_read(tree: &Tree, k: u32) -> bool
+    requires { k < length tree.now }
+    ensures { result ≡ false → ((node_at tree.now k).kind ≡ S) ⊎ ((node_at tree.now k).kind ≡ P) }
 {
-    let mut faces = FlatLists::with_capacity(alloc, tree.node_count() as usize)?;
-    let mut own = Vec::new(alloc);
-    for k in 0..tree.node_count() {
-        number_faces(steps.at(k as usize), &mut own)?;
-        faces.push(&own)?;
+    match tree.kind(k) {
+        Kind::S | Kind::P => false,
+        Kind::R | Kind::B => true,
     }
-    Ok(faces)
 }
 
-// The faces of the skeletons, in the family that the present rotation system follows.
+// Whether those of some node are.
+fn some_read(tree: &Tree) -> bool
+    ensures { result ≡ false → (k : ℕ) → k < length tree.now
+        → ((node_at tree.now k).kind ≡ S) ⊎ ((node_at tree.now k).kind ≡ P) }
+{
+    for k in 0..tree.node_count() {
+        if is_read(tree, k) {
+            return true;
+        }
+    }
+    false
+}
+
+// The face steps of the nodes that are neither polygons nor bonds.
+fn other_steps(alloc: Global, p: &PlaneBlock) -> Result<FlatLists, AllocError>
+    ensures { IfOk result (HaveOtherSteps p.now.tree p.now.rotation) }
+{
+    p.belongs();
+    p.graph().keeps_limits();
+    if some_read(p.tree()) {
+        return face_steps(alloc, p.graph(), p.tree(), p.rotation());
+    }
+    FlatLists::with_capacity(alloc, 0)
+}
+
+// Puts the numbers of the darts of node k into `own`. `sums` has a place for each vertex of the block; `sums` and `steps` are changed on the way.
+fn numbers_at(
+    p: &PlaneBlock,
+    k: u32,
+    others: &FlatLists,
+    sums: &mut [u32],
+    steps: &mut Vec<u32>,
+    own: &mut Vec<u32>,
+) -> Result<(), AllocError>
+    requires node { k < length p.now.tree }
+    requires others { HaveOtherSteps p.now.tree p.now.rotation others.now }
+    requires places { length sums.old ≡ p.now.graph.vertex_count }
+    ensures places { length sums.new ≡ length sums.old }
+    ensures numbers { IfOk result (λ _. (family : List (List (List ℕ))) → AreSkeletonSystems p.now.tree family
+        → FollowsFamily p.now.tree family p.now.rotation
+        → NumberFaces (skeleton_graph p.now.tree k) (system_at family k) own.new.items) }
+{
+    p.belongs();
+    p.graph().keeps_limits();
+    let tree = p.tree();
+    match tree.kind(k) {
+        Kind::P => bond_numbers(tree.items(k), p.keys(k), own),
+        Kind::S => {
+            polygon_steps(tree, k, sums, steps)?;
+            number_faces(steps, own)
+        }
+        Kind::R | Kind::B => number_faces(others.at(k as usize), own),
+    }
+}
+
+// The faces of the skeletons, in the family that the present rotation system follows. In time n log n. Fails only if memory runs out.
 pub(crate) fn present_faces(alloc: Global, p: &PlaneBlock) -> Result<FlatLists, AllocError>
     ensures { IfOk result (λ faces. (family : List (List (List ℕ))) → AreSkeletonSystems p.now.tree family
         → FollowsFamily p.now.tree family p.now.rotation → KnowFaces p.now.tree family faces) }
 {
     p.belongs();
-    p.graph().keeps_limits();
-    let steps = face_steps(alloc, p.graph(), p.tree(), p.rotation())?;
-    numbers_of(alloc, p.tree(), &steps)
+    let others = other_steps(alloc, p)?;
+    let mut faces = FlatLists::with_capacity(alloc, p.tree().node_count() as usize)?;
+    let mut sums = vec![in alloc; 0; p.graph().vertex_count() as usize]?;
+    let (mut steps, mut own) = (Vec::new(alloc), Vec::new(alloc));
+    for k in 0..p.tree().node_count() {
+        numbers_at(p, k, &others, &mut sums, &mut steps, &mut own)?;
+        faces.push(&own)?;
+    }
+    Ok(faces)
 }

@@ -1,13 +1,23 @@
 // What is known of a node before anything is wanted.
 
+ghost use Rattle.std.specs.Prelude.{◌<◌, ℕ, List, length, IfOk};
+ghost use Rattle.multigraph.specs.Graph.{Multigraph};
+ghost use Rattle.face_weights.specs.Weights.{weight_of};
+ghost use Rattle.long_face.specs.Ready.{AreKnown, AreRowsOf, AreSomeKnown};
+
+use face_weights::{Weights, face_sums};
+use skel_decompose::FlatLists;
+use spqr_tree::Tree;
+use std::alloc::{AllocError, Global};
 use std::marker::Model;
 
-// The weights of the items of a node, the weights of the faces of its darts, and the numbers of these faces.
+// The weights of the items of a node, and those of the faces of its darts. They are computed for one node after the other in the same
+// lists.
 #[derive(Debug, Drop)]
 pub(crate) struct Rows {
     pub(crate) weights: Vec<u32>,
     pub(crate) sums: Vec<u32>,
-    pub(crate) numbers: Vec<u32>,
+    pub(crate) totals: Vec<u32>,
 }
 
 impl Model for Rows {
@@ -18,6 +28,34 @@ impl Model for Rows {
     ghost view = { λ rows. record {
       weights = rows.weights.items;
       sums = rows.sums.items;
-      numbers = rows.numbers.items;
     } };
+}
+
+// Lists that are empty.
+pub(crate) fn no_rows(alloc: Global) -> Rows {
+    Rows {
+        weights: Vec::new(alloc),
+        sums: Vec::new(alloc),
+        totals: Vec::new(alloc),
+    }
+}
+
+// Makes them those of node k. In time n log n for n items. Fails only if memory runs out.
+pub(crate) fn fill(
+    rows: &mut Rows,
+    tree: &Tree,
+    faces: &FlatLists,
+    weights: &Weights,
+    k: u32,
+) -> Result<(), AllocError>
+    requires known { AreSomeKnown tree.now faces.now weights.now }
+    requires node { k < length tree.now }
+    ensures { IfOk result (λ _. (g : Multigraph) (family : List (List (List ℕ)))
+        → AreKnown g tree.now family faces.now weights.now
+        → AreRowsOf tree.now family (weight_of tree.now weights.now) k rows.new) }
+{
+    weights.of_node(tree, k, &mut rows.weights)?;
+    let numbers = faces.at(k as usize);
+    face_sums(numbers, &rows.weights, &mut rows.totals, &mut rows.sums)?;
+    Ok(())
 }

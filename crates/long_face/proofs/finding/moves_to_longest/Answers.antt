@@ -27,7 +27,7 @@ moves_for-requires-clause-pairs c =
     let all = subst (λ (z : List Node). (family : List (List (List ℕ))) → KnowFaces z family c.args.faces.now → AreWeights z family w → (g : Multigraph) → IsBlockTree g z → IsWithinLimits g → IsWalked g z family (weight_of z w) w.top w.most c.in_ok-wants.wants.items) c.tree.ensures.value c.in_ok-wants.ensures.walked in
     let walked = all family known.1 known.3 s.graph c.belongs.ensures.block (subst IsWithinLimits c.graph.ensures.value c.keeps_limits.ensures.limits) in
     let settled = subst (AreSettled s.tree family (weight_of s.tree w) w.top w.most walked.parents) (sym c.deref.ensures.value) walked.settled in
-    wanted-pairs s.graph s.tree family (weight_of s.tree w) w.top w.most walked.rows walked.ready walked.parents walked.order walked.ordered walked.once c.deref.result.now settled
+    wanted-pairs s.graph s.tree family (weight_of s.tree w) w.top w.most walked.ready walked.parents walked.order walked.ordered walked.once c.deref.result.now settled
 
 pub returns : goal.returns
 returns c =
@@ -38,6 +38,6 @@ returns c =
     let all = subst (λ (z : List Node). (family : List (List (List ℕ))) → KnowFaces z family c.args.faces.now → AreWeights z family w → (g : Multigraph) → IsBlockTree g z → IsWithinLimits g → IsWalked g z family (weight_of z w) w.top w.most c.in_ok-wants.wants.items) c.tree.ensures.value c.in_ok-wants.ensures.walked in
     let walked = all family known.1 known.3 s.graph c.belongs.ensures.block (subst IsWithinLimits c.graph.ensures.value c.keeps_limits.ensures.limits) in
     let settled = subst (AreSettled s.tree family (weight_of s.tree w) w.top w.most walked.parents) (sym c.deref.ensures.value) walked.settled in
-    let longest = walked-longest s.graph s.tree family (weight_of s.tree w) w.top w.most walked.rows walked.ready walked.parents walked.order walked.ordered walked.once c.deref.result.now settled s.rotation c.belongs.ensures.plane known.2
+    let longest = walked-longest s.graph s.tree family (weight_of s.tree w) w.top w.most walked.ready walked.parents walked.order walked.ordered walked.once c.deref.result.now settled s.rotation c.belongs.ensures.plane known.2
     known.3.edges c.requires.lacks in
     IfOk-weaker c.moves_for.result _ _ (λ moves e. subst (IsLongest s.graph s.tree s.rotation w.most) (sym e) longest) c.moves_for.ensures
