@@ -150,7 +150,7 @@ arranged-first l keys h p = permutation-member l keys (slice_index_or l 0 0) p �
 
 -- without keys there is one order
 pub arranged-none : (l keys : List ℕ) → length l ≡ 0 → IsPermutation l keys → l ≡ from_least keys
-arranged-none l keys e p = empty l e ∙ sym (ap from_least (empty keys (sym (length_permutation l keys p) ∙ e)))
+arranged-none l keys e p = empty l e ∙ sym (ap from_least (empty keys (length_permutation l keys p ∙ e)))
   where
     empty : (k : List ℕ) → length k ≡ 0 → k ≡ []
     empty [] q = refl
