@@ -1,5 +1,5 @@
-use Rattle.std.proofs.Common.{◌≡◌, ◌<◌, ℕ, length, refl, sym, arith, subst}
-use Rattle.rotations.specs.Rotation.{order_at, IsRotationSystem}
+use Rattle.std.proofs.Common.{◌<◌, ℕ, length, refl, sym, arith, subst}
+use Rattle.rotations.specs.Rotation.{order_at}
 use Rattle.faces.proofs.DartLemmas.{order-distinct}
 use Rattle.pair_split.specs.Tutte.{group}
 use Rattle.skel_embed.specs.Arranged.{directed}
