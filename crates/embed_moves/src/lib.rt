@@ -4,8 +4,8 @@
 // Mac Lane 1937). Each leads from a plane rotation system to a plane one. A locked node is not moved. A call that
 // fails says why, and leaves the block as it was. Nothing but `back` takes memory.
 //
-// A permute is made of exchanges of two groups. That these lead where the one move leads follows from the choices: each
-// exchange keeps all choices but that of the bond, and a plane rotation system is determined by its choices.
+// That a permute back to the old choice leads back follows from the choices: a move keeps all choices but that of its node,
+// and a plane rotation system is determined by its choices.
 #![tactic(auto)]
 
 mod carrying;

@@ -1,8 +1,8 @@
--- Two groups of a bond in each other's place at both poles: the choice with their keys exchanged.
-use Rattle.std.proofs.Common.{◌≡◌, ◌≢◌, ℕ, ◌-◌, ◌<◌, true, List, [], ◌∷◌, ◌++◌, length, reverse, slice_index_or, refl, sym, ap, ◌∙◌, subst, arith, IsPermutation}
+-- Groups of a bond moved at both poles: two in each other's place, or all in the order of given keys.
+use Rattle.std.proofs.Common.{◌≡◌, ◌≢◌, ℕ, ◌-◌, ◌<◌, ◌≤◌, true, List, [], ◌∷◌, ◌++◌, length, reverse, slice_index_or, refl, sym, ap, ◌∙◌, subst, arith, IsPermutation}
 use Rattle.std.proofs.lemmas.Bool.{both_ways}
-use Rattle.std.proofs.lemmas.List.{reverse-append, length-reverse}
-use Rattle.std.proofs.lemmas.List.Sorted.{IsPermutation-trans, IsPermutation-sym, IsPermutation-map}
+use Rattle.std.proofs.lemmas.List.{reverse-append, length-reverse, length-map}
+use Rattle.std.proofs.lemmas.List.Sorted.{IsPermutation-trans, IsPermutation-sym, IsPermutation-map, length_permutation}
 use Rattle.permutations.specs.Cyclic.{first_or, last_or, from_least, IsTurn}
 use Rattle.permutations.specs.Members.{is_member, is_distinct}
 use Rattle.permutations.specs.Runs.{group_keys, InRuns}
@@ -14,9 +14,11 @@ use Rattle.multigraph.specs.Graph.{Multigraph}
 use Rattle.multigraph.proofs.Places.{rises-once}
 use Rattle.rotations.specs.Rotation.{order_at, IsRotationSystem}
 use Rattle.rotations.specs.Runs.{IsKeptElsewhere}
-use Rattle.pair_split.specs.Tutte.{Node, group}
+use Rattle.pair_split.specs.Tutte.{Node, node_at, group, components, piece_of}
+use Rattle.pair_split.specs.Split.{items_of, piece_ends}
 use Rattle.pair_split.specs.declared.components.Kind.TheVariants.{P}
-use Rattle.skeletons.specs.Items.{node_keys, has_vertex, least_vertex, greatest_vertex, IsBlockTree}
+use Rattle.pair_split.proofs.NodeParts.{node-pieces}
+use Rattle.skeletons.specs.Items.{item_key, node_keys, has_vertex, least_vertex, greatest_vertex, IsBlockTree}
 use Rattle.skeletons.specs.Round.{keys_round}
 use Rattle.faces.specs.Euler.{IsPlaneSystem}
 use Rattle.skeletons.specs.Choices.{choice}
@@ -28,6 +30,8 @@ use Rattle.skeletons.proofs.Moved.{runs-keys}
 use Rattle.skeleton_runs.proofs.Contiguous.{plane-contiguous}
 use Rattle.skeleton_choices.proofs.Rounds.{map-reverse}
 use Rattle.skeleton_choices.proofs.Plane.{Parts, parts, same-round, plane-bond, choice-round}
+use Rattle.skeleton_planes.proofs.OneSystem.{kind-of}
+use Rattle.skel_embed.specs.Arranged.{HasGroupsOf}
 use Rattle.skel_embed.specs.Exchanges.{other_of, exchanged, AreExchanged, HasKeys}
 
 -- groups cut where their keys are
@@ -146,3 +150,30 @@ module _ (g : Multigraph) (nodes : List Node) (b : IsBlockTree g nodes) (r : Lis
       (subst (AreExchanged (group nodes k) x y (order_at r least)) (sym (f.others least (poles-differ g nodes b k is))) first)
       (subst (λ (z : List ℕ). AreExchanged (group nodes k) x y z (order_at q greatest)) (after-least m e) second)
       (λ v n o. f.others v o ∙ e.others v n)
+
+  -- a bond has three keys
+  bond-three : 3 ≤ length (node_keys nodes k)
+  bond-three = omega (arith, (kind-of g nodes b k P is).three, length-map (items_of (components nodes) k) piece_ends, ap length (node-pieces nodes k), length-map (node_at nodes k).items piece_of, length-map (node_at nodes k).items item_key)
+
+  -- at each pole stand groups of just these keys
+  pub has-groups : (v : ℕ) (keys : List ℕ) → has_vertex nodes k v ≡ true → IsPermutation (node_keys nodes k) keys → HasGroupsOf (group nodes k) (order_at r v) keys
+  has-groups v keys h a =
+      let w = plane-contiguous g nodes r b p k v h in
+      record {
+        groups = w.0;
+        runs = w.1;
+        arranged = IsPermutation-trans (group_keys w.0) (node_keys nodes k) keys (IsPermutation-sym (node_keys nodes k) (group_keys w.0) (runs-arranged v w.0 h w.1)) a;
+        two = omega (arith, bond-three, length_permutation (node_keys nodes k) keys a);
+      }
+
+  -- with the groups in the order of keys at the least pole, and then in the reverse at the greatest, the node is permuted to them
+  pub both-arranged : (m q : List (List ℕ)) (keys : List ℕ) → IsPermutation (node_keys nodes k) keys → IsKeptElsewhere r m least → IsKeptElsewhere m q greatest → IsRotationSystem g q → AreRegrouped (group nodes k) (order_at r least) keys (order_at m least)
+      → AreRegrouped (group nodes k) (order_at m greatest) (reverse keys) (order_at q greatest) → PermuteLeads g nodes k keys r q
+  both-arranged m q keys a e f system first second = record {
+    system = system;
+    arrangement = a;
+    lesser = subst (AreRegrouped (group nodes k) (order_at r least) keys) (sym (f.others least (poles-differ g nodes b k is))) first;
+    greater = subst (λ (z : List ℕ). AreRegrouped (group nodes k) z (reverse keys) (order_at q greatest)) (after-least m e) second;
+    stays = λ v h. f.others v (λ i. both_ways (has_vertex nodes k v) h (subst (λ z. has_vertex nodes k z ≡ true) (sym i) (greatest-has g nodes b k is.0)))
+        ∙ e.others v (λ i. both_ways (has_vertex nodes k v) h (subst (λ z. has_vertex nodes k z ≡ true) (sym i) (least-has g nodes b k is.0)));
+  }

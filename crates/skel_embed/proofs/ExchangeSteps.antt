@@ -98,7 +98,7 @@ pub record AreCut (gs : List (ℕ × List ℕ)) (a b : ℕ) : Type 0 where
   pub other_round : IsTurn (between ++ first ∷ (behind ++ second ∷ [])) after
   pub keys : group_keys after ≡ exchanged a b (group_keys gs)
 
-keys-append : (gs hs : List (ℕ × List ℕ)) → group_keys (gs ++ hs) ≡ group_keys gs ++ group_keys hs
+pub keys-append : (gs hs : List (ℕ × List ℕ)) → group_keys (gs ++ hs) ≡ group_keys gs ++ group_keys hs
 keys-append gs hs = map-append (λ (h : ℕ × List ℕ). h.0) gs hs
 
 pub cut-groups : (gs : List (ℕ × List ℕ)) (a b : ℕ) → is_distinct (group_keys gs) ≡ true → is_member a (group_keys gs) ≡ true → is_member b (group_keys gs) ≡ true → a ≢ b → AreCut gs a b

@@ -1,13 +1,16 @@
 -- Choices changed in their place.
-use Rattle.std.proofs.Common.{◌≡◌, ℕ, zero, suc, ◌+◌, ◌<◌, Bool, true, not, ◌||◌, ◌==◌, cond, nat_lt, List, [], ◌∷◌, ◌++◌, length, map, reverse, take, drop, slice_index_or, slice_set, Some, None, refl, sym, ap, ◌∙◌, subst, inl, inr, arith}
+use Rattle.std.proofs.Common.{◌≡◌, ℕ, zero, suc, ◌+◌, ◌<◌, Bool, true, not, ◌||◌, ◌==◌, cond, nat_lt, List, [], ◌∷◌, ◌++◌, length, map, reverse, take, drop, slice_index_or, slice_set, Some, None, refl, sym, ap, ◌∙◌, subst, inl, inr, arith, IsPermutation}
 use Rattle.std.specs.List.{position, position_or_len}
 use Rattle.std.proofs.lemmas.Bool.{cases_Bool, cases_eq, true≢false, eqb-true, lt-ltb, cond-true}
 use Rattle.std.proofs.lemmas.Option.{cond_some, none-some}
 use Rattle.std.proofs.lemmas.List.{length-append, length-map, length-reverse}
+use Rattle.std.proofs.lemmas.List.Sorted.{length_permutation}
 use Rattle.permutations.specs.Cyclic.{first_or, from_least, turned}
 use Rattle.permutations.specs.Members.{is_member, is_distinct}
+use Rattle.permutations.proofs.Arrangements.{permutation-member, member-at}
 use Rattle.permutations.proofs.Members.{member-head, member-tail, member-cases}
 use Rattle.permutations.proofs.NormalForm.{least-same, from_least-first_or, from_least-turn}
+use Rattle.permutations.proofs.Places.{first-at}
 use Rattle.permutations.proofs.Relation.{same-tests}
 use Rattle.permutations.proofs.Turned.{turned-cut, IsTurn-length}
 use Rattle.choice_lists.specs.Choices.{mirror_choice}
@@ -138,6 +141,21 @@ exchanged-members a b l x ma mb = same-tests (is_member x (exchanged a b l)) (is
 pub exchanged-least : (a b : ℕ) (l : List ℕ) → from_least l ≡ l → is_member a l ≡ true → is_member b l ≡ true → turned (exchanged a b l) (first_or 0 l) ≡ from_least (exchanged a b l)
 exchanged-least a b l w ma mb = ap (turned (exchanged a b l)) (sym (least-same (exchanged a b l) l (λ z. exchanged-members a b l z ma mb) ∙ sym (from_least-first_or l a ma) ∙ ap (first_or 0) w))
 
+-- the least of keys in another order is the first of the list
+pub arranged-least : (l keys : List ℕ) → from_least l ≡ l → 0 < length l → IsPermutation l keys → turned keys (slice_index_or l 0 0) ≡ from_least keys
+arranged-least l keys w h p = ap (turned keys) (first-at l ∙ ap (first_or 0) (sym w) ∙ from_least-first_or l (slice_index_or l 0 0) (member-at l 0 0 h) ∙ least-same l keys (λ z. sym (permutation-member l keys z p)))
+
+pub arranged-first : (l keys : List ℕ) → 0 < length l → IsPermutation l keys → is_member (slice_index_or l 0 0) keys ≡ true
+arranged-first l keys h p = permutation-member l keys (slice_index_or l 0 0) p ∙ member-at l 0 0 h
+
+-- without keys there is one order
+pub arranged-none : (l keys : List ℕ) → length l ≡ 0 → IsPermutation l keys → l ≡ from_least keys
+arranged-none l keys e p = empty l e ∙ sym (ap from_least (empty keys (length_permutation l keys p ∙ e)))
+  where
+    empty : (k : List ℕ) → length k ≡ 0 → k ≡ []
+    empty [] q = refl
+    empty (x ∷ k) q = absurd (omega (arith, q))
+
 pub exchanged-first : (a b : ℕ) (l : List ℕ) → is_member a l ≡ true → is_member b l ≡ true → is_member (slice_index_or l 0 0) (exchanged a b l) ≡ true
 exchanged-first a b [] ma mb = absurd (true≢false (sym ma))
 exchanged-first a b (x ∷ l) ma mb = exchanged-members a b (x ∷ l) x ma mb ∙ member-head x l
@@ -149,6 +167,9 @@ member-filled (y ∷ l) x m = omega arith
 -- neither change of a choice changes its length
 pub turned-length : (l : List ℕ) → length (turned_choice l) ≡ length l
 turned-length l = omega (arith, IsTurn-length (reverse l) (from_least (reverse l)) (from_least-turn (reverse l)), length-reverse l)
+
+pub arranged-length : (l keys : List ℕ) → IsPermutation l keys → length (from_least keys) ≡ length l
+arranged-length l keys p = omega (arith, IsTurn-length keys (from_least keys) (from_least-turn keys), length_permutation l keys p)
 
 pub exchanged-length : (a b : ℕ) (l : List ℕ) → length (from_least (exchanged a b l)) ≡ length l
 exchanged-length a b l = omega (arith, IsTurn-length (exchanged a b l) (from_least (exchanged a b l)) (from_least-turn (exchanged a b l)), length-map l (other_of a b))

@@ -6,6 +6,7 @@ mod Mirrors
 pub mod RunSteps
 pub mod TurnSteps
 pub mod ExchangeSteps
+pub mod ArrangeSteps
 pub mod KeptLists
 mod Flat
 pub mod BondMoves

@@ -1,7 +1,8 @@
 -- A block in the plane after a move: its kept choices are right again.
-use Rattle.std.proofs.Common.{◌≡◌, ℕ, ◌<◌, inl, inr, true, List, [], length, map, reverse, slice_index_or, slice_set, sym, ap, ◌∙◌, subst, arith}
+use Rattle.std.proofs.Common.{◌≡◌, ℕ, ◌<◌, inl, inr, true, List, [], length, map, reverse, slice_index_or, slice_set, sym, ap, ◌∙◌, subst, arith, IsPermutation}
 use Rattle.std.proofs.lemmas.Bool.{cases_eq}
 use Rattle.std.proofs.lemmas.List.{length-set, length-map, get_or-map, get_or-set_same, get_or-set_other}
+use Rattle.std.proofs.lemmas.List.Sorted.{IsPermutation-trans, IsPermutation-sym}
 use Rattle.permutations.specs.Cyclic.{from_least}
 use Rattle.permutations.specs.Members.{is_member, is_distinct}
 use Rattle.permutations.specs.Runs.{group_keys}
@@ -56,6 +57,13 @@ bond-member s is k a node m =
     let p = runs-arranged s.graph s.tree is.block s.rotation is.plane k node (least_vertex s.tree k) w.0 (least-has s.graph s.tree is.block k node.0) w.1 in
     ap (is_member a) (is.choices.is k node.0 ∙ sym w.2) ∙ permutation-member (node_keys s.tree k) (group_keys w.0) a p ∙ m
 
+-- an arrangement of a bond's keys is one of its kept choice
+pub kept-arranged : (s : BlockState) → IsBlockState s → (k : ℕ) (keys : List ℕ) → IsNodeOfKind s.tree k P → IsPermutation (node_keys s.tree k) keys → IsPermutation (slice_index_or s.choices k []) keys
+kept-arranged s is k keys node a =
+    let w = least-groups s.graph s.tree is.block s.rotation is.plane k node in
+    let p = runs-arranged s.graph s.tree is.block s.rotation is.plane k node (least_vertex s.tree k) w.0 (least-has s.graph s.tree is.block k node.0) w.1 in
+    subst (λ (z : List ℕ). IsPermutation z keys) (w.2 ∙ sym (is.choices.is k node.0)) (IsPermutation-trans (group_keys w.0) (node_keys s.tree k) keys (IsPermutation-sym (node_keys s.tree k) (group_keys w.0) p) a)
+
 -- a block with another rotation system, and another choice of one node
 abbrev pub with_move : BlockState → List (List ℕ) → ℕ → List ℕ → BlockState
 with_move s q k keys = record { graph = s.graph; tree = s.tree; rotation = q; choices = slice_set s.choices k keys; locks = s.locks }
@@ -84,6 +92,11 @@ state-flipped s is k q node f = state-moved s is (flip k) q (from_least (reverse
 pub state-permuted : (s : BlockState) → IsBlockState s → (k a b : ℕ) (q : List (List ℕ)) → IsNodeOfKind s.tree k P → PermuteLeads s.graph s.tree k (exchanged a b (choice s.tree s.rotation k)) s.rotation q → IsBlockState (with_move s q k (from_least (exchanged a b (slice_index_or s.choices k []))))
 state-permuted s is k a b q node f = state-moved s is (permute k (exchanged a b (choice s.tree s.rotation k))) q (from_least (exchanged a b (slice_index_or s.choices k []))) node.0 (node, f)
     (permute-sets s.graph s.tree k (exchanged a b (choice s.tree s.rotation k)) s.rotation q is.block is.plane.system (plane-contiguous s.graph s.tree s.rotation is.block is.plane) node f ∙ ap (λ (z : List ℕ). from_least (exchanged a b z)) (sym (is.choices.is k node.0)))
+
+-- after a permute to these keys
+pub state-arranged : (s : BlockState) → IsBlockState s → (k : ℕ) (keys : List ℕ) (q : List (List ℕ)) → IsNodeOfKind s.tree k P → PermuteLeads s.graph s.tree k keys s.rotation q → IsBlockState (with_move s q k (from_least keys))
+state-arranged s is k keys q node f = state-moved s is (permute k keys) q (from_least keys) node.0 (node, f)
+    (permute-sets s.graph s.tree k keys s.rotation q is.block is.plane.system (plane-contiguous s.graph s.tree s.rotation is.block is.plane) node f)
 
 -- the kept choices are written from their least keys on
 pub kept-all : (s : BlockState) → IsBlockState s → AreWritten s.choices

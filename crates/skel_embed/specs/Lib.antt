@@ -7,6 +7,7 @@ pub mod Outcomes
 pub mod Planes
 pub mod Steps
 pub mod Exchanges
+pub mod Arranged
 pub mod Values
 pub mod Taken
 pub mod Flat

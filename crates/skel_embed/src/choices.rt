@@ -1,14 +1,14 @@
 // The choices of all nodes, as they are kept: the keys of one after those of the other, and where each choice ends. The keys are
 // changed in place; the ends never change.
 
-ghost use Rattle.std.specs.Prelude.{◌≡◌, ◌+◌, ◌<◌, ◌≤◌, [], true, length, map, slice_index_or, slice_set};
+ghost use Rattle.std.specs.Prelude.{◌≡◌, ◌+◌, ◌<◌, ◌≤◌, [], true, length, map, slice_index_or, slice_set, IsPermutation};
 ghost use Rattle.std.specs.List.{concat};
 ghost use Rattle.permutations.specs.Cyclic.{from_least};
 ghost use Rattle.permutations.specs.Members.{is_member, is_distinct};
 ghost use Rattle.skel_embed.specs.Exchanges.{exchanged, turned_choice, AreWritten};
 ghost use Rattle.skel_embed.specs.Flat.{start_at, lists_in, AreFlat};
 
-use crate::kept::{exchange, turn_round};
+use crate::kept::{arrange, exchange, turn_round};
 use std::marker::Model;
 
 // The choices of the nodes, as they are read.
@@ -110,6 +110,22 @@ pub(crate) fn exchange_in_choice(keys: &mut Vec<u32>, ends: &[usize], k: usize, 
 {
     let (start, end) = Choices::of(keys.as_slice(), ends).bounds(k);
     exchange(&mut keys[start..end], a, b);
+}
+
+// Writes the keys of node k in another cyclic order.
+pub(crate) fn arrange_choice(keys: &mut Vec<u32>, ends: &[usize], k: usize, order: &[u32])
+    requires flat { AreFlat (lists_in keys.old.items ends.now) keys.old.items ends.now }
+    requires node { k < length (lists_in keys.old.items ends.now) }
+    requires written { from_least (slice_index_or (lists_in keys.old.items ends.now) k [])
+        ≡ slice_index_or (lists_in keys.old.items ends.now) k [] }
+    requires arrangement { IsPermutation (slice_index_or (lists_in keys.old.items ends.now) k [])
+        order.now }
+    ensures flat { AreFlat (lists_in keys.new.items ends.now) keys.new.items ends.now }
+    ensures arranged { lists_in keys.new.items ends.now
+        ≡ slice_set (lists_in keys.old.items ends.now) k (from_least order.now) }
+{
+    let (start, end) = Choices::of(keys.as_slice(), ends).bounds(k);
+    arrange(&mut keys[start..end], order);
 }
 
 // Reverses the cyclic order of each node.

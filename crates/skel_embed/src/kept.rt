@@ -1,6 +1,6 @@
 // The keys of a choice, from the least on, changed in place.
 
-ghost use Rattle.std.specs.Prelude.{◌≡◌, ◌≤◌, ◌++◌, ◌==◌, true, length, reverse, take, drop};
+ghost use Rattle.std.specs.Prelude.{◌≡◌, ◌≤◌, ◌++◌, ◌==◌, true, length, reverse, take, drop, IsPermutation};
 ghost use Rattle.std.specs.List.{position};
 ghost use Rattle.permutations.specs.Cyclic.{from_least, turned};
 ghost use Rattle.permutations.specs.Members.{is_member, is_distinct};
@@ -28,6 +28,20 @@ pub(crate) fn exchange(keys: &mut [u32], a: u32, b: u32)
 {
     let least = keys[0];
     exchange_all(keys, a, b);
+    turn_to(keys, least);
+}
+
+// Writes the keys in another cyclic order.
+pub(crate) fn arrange(keys: &mut [u32], order: &[u32])
+    requires written { from_least keys.old ≡ keys.old }
+    requires arrangement { IsPermutation keys.old order.now }
+    ensures { keys.new ≡ from_least order.now }
+{
+    if keys.is_empty() {
+        return;
+    }
+    let least = keys[0];
+    keys.copy_from_slice(order);
     turn_to(keys, least);
 }
 

@@ -10,9 +10,10 @@
 // A `PlaneBlock` is a block with its tree, a plane rotation system, the present choice of each node, and locks on nodes; that
 // these belong together is its invariant. Calls fail only if memory runs out, except that `take` may reject lists.
 //
-// A triconnected node is flipped, and two groups of a bond are exchanged, by moving the runs in which the groups lie around the
-// vertices of the node: a run is found by walking along it, and moved without looking at it. So no memory is taken, and
-// the inside of a group is never touched. `take` accepts lists where V - E + F is 2 (Euler 1758, Heffter 1891).
+// A triconnected node is flipped, and two groups of a bond are exchanged, or all brought into another order, by moving the runs in
+// which the groups lie around the vertices of the node: a run is found by walking along it, and moved without looking at it.
+// So no memory is taken, and the inside of a group is never touched. `take` accepts lists where V - E + F is 2 (Euler 1758,
+// Heffter 1891).
 //
 // The lemmas (module of proofs/ in front):
 //   Lexicographic  rising-least, mirrored-later: which list comes first
@@ -20,7 +21,8 @@
 //   RunSteps       ends-last, begins-first, put-groups: where runs end and begin, and what becomes of one that is moved
 //   TurnSteps      turning-on, turned-more: groups brought into the reverse order, at one vertex and at all of a node
 //   ExchangeSteps  cut-groups, put-both: two groups exchanged
-//   BondMoves      least-groups, exchange-leads: the groups at both poles in the order of the choice
+//   ArrangeSteps   arranging-more, arranging-done: each run after the one before it
+//   BondMoves      least-groups, exchange-leads, both-arranged: the groups at both poles in the order of the choice, or of keys
 //   KeptLists      turned-round, exchanged-least: choices changed in place
 //   Flat           flat-view, piece-of, lent-put: choices kept as one list
 //   KeptKeys       first-kept, other-state: the kept choices of the first rotation system, and of another one
@@ -28,6 +30,7 @@
 //   States         state-moved, state-mirrored: the invariant after a move
 #![tactic(auto)]
 
+mod arranging;
 mod blocks_in_plane;
 mod choices;
 mod choosing;

@@ -7,7 +7,7 @@ ghost use Rattle.rotations.specs.Rotation.{order_at, IsRotationSystem};
 ghost use Rattle.rotations.specs.Runs.{IsOutside, IsKeptElsewhere};
 ghost use Rattle.pair_split.specs.Tutte.{group};
 ghost use Rattle.skeletons.specs.Items.{IsBlockTree};
-ghost use Rattle.skel_embed.specs.Steps.{EndsRun, BeginsRun, IsPut};
+ghost use Rattle.skel_embed.specs.Steps.{EndsRun, BeginsRun, IsPut, StandInTwoRuns};
 
 use multigraph::Graph;
 use pair_split::{Item, What};
@@ -143,6 +143,32 @@ pub(crate) fn run_first(g: &Graph, t: &Tree, r: &Rotation, k: u32, v: u32, key: 
         }
     }
     0
+}
+
+// A run around a vertex: its first edge and its last.
+#[derive(Clone, Copy)]
+pub(crate) struct Run {
+    pub(crate) first: u32,
+    pub(crate) last: u32,
+}
+
+// The run around v whose edges have this key.
+pub(crate) fn run_with(g: &Graph, t: &Tree, r: &Rotation, k: u32, v: u32, key: u32) -> Run
+    requires block { IsBlockTree g.now t.now }
+    requires node { k < length t.now }
+    requires system { IsRotationSystem g.now r.now }
+    requires vertex { v < g.now.vertex_count }
+    requires runs { StandInTwoRuns (group t.now k) (order_at r.now v) }
+    requires begins { (first : ℕ) × BeginsRun (group t.now k) (order_at r.now v) key first }
+    ensures begins { BeginsRun (group t.now k) (order_at r.now v) key result.first }
+    ensures ends { EndsRun (group t.now k) (order_at r.now v) result.first result.last }
+{
+    let first = run_first(g, t, r, k, v, key);
+    let end = run_end(g, t, r, k, v, first, key);
+    Run {
+        first,
+        last: end.last,
+    }
 }
 
 // Moves the run from `first` to `last` to the place after `after`, unless this is its own last edge.

@@ -1,6 +1,6 @@
 // A block in the plane.
 
-ghost use Rattle.std.specs.Prelude.{◌≡◌, ◌<◌, true, length, map, reverse, IfOk, IfErr, slice_set};
+ghost use Rattle.std.specs.Prelude.{◌≡◌, ◌<◌, true, length, map, reverse, IfOk, IfErr, slice_set, IsPermutation};
 ghost use Rattle.std.specs.List.{concat};
 ghost use Rattle.permutations.specs.Cyclic.{from_least};
 ghost use Rattle.permutations.specs.Members.{is_member};
@@ -16,7 +16,8 @@ ghost use Rattle.skel_embed.specs.Block.{BlockState, lock_at, choices_by, IsBloc
 ghost use Rattle.skel_embed.specs.Flat.{lists_in, AreFlat};
 ghost use Rattle.skel_embed.specs.Taken.{IsGiven, IsTakeRefusal};
 
-use crate::choices::{Choices, exchange_in_choice, turn_all, turn_choice};
+use crate::arranging::arrange_node;
+use crate::choices::{Choices, arrange_choice, exchange_in_choice, turn_all, turn_choice};
 use crate::choosing::{choices_of, first_other};
 use crate::exchanging::exchange_node;
 use crate::taking::{TakeFault, given};
@@ -214,6 +215,26 @@ impl PlaneBlock {
         let frame = self.frame.as_ref();
         exchange_node(&frame.graph, &frame.tree, &mut self.rotation, k, a, b);
         exchange_in_choice(&mut self.keys, frame.ends.as_slice(), k as usize, a, b);
+    }
+
+    /// Brings the groups of the bond `k` into the cyclic order of the keys at the lesser pole, and into the reverse at the other,
+    /// each group as it was. So its choice has these keys, written from the least on. All else stays. Takes no memory, and time
+    /// in proportion to the degrees of the poles, times that of `Tree::group`, where the first edge of each group is found
+    /// without a look at all edges of a pole.
+    pub fn arrange(&mut self, k: u32, keys: &[u32])
+        requires node { IsNodeOfKind self.old.tree k P }
+        requires arrangement { IsPermutation (node_keys self.old.tree k) keys.now }
+        ensures permute { PermuteLeads self.old.graph self.old.tree k keys.now self.old.rotation
+            self.new.rotation }
+        ensures choice { self.new.choices ≡ slice_set self.old.choices k (from_least keys.now) }
+        ensures rest { self.new ≡ record self.old {
+          rotation = self.new.rotation;
+          choices = self.new.choices;
+        } }
+    {
+        let frame = self.frame.as_ref();
+        arrange_node(&frame.graph, &frame.tree, &mut self.rotation, k, keys);
+        arrange_choice(&mut self.keys, frame.ends.as_slice(), k as usize, keys);
     }
 
     /// Reverses every rotation: the mirror image of the block, in which each choice is reversed. All else stays. Takes no

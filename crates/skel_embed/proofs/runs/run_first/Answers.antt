@@ -1,7 +1,7 @@
 use Rattle.rotations.specs.Rotation.{order_at}
 use Rattle.pair_split.specs.Tutte.{group}
 use Rattle.skel_embed.specs.Steps.{BeginsRun}
-use Rattle.std.proofs.Common.{true, false, sym}
+use Rattle.std.proofs.Common.{sym}
 use Rattle.std.proofs.lemmas.Bool.{true≢false}
 use Rattle.skel_embed.proofs.RunSteps.{incident-in, none-more, none-found}
 use Rattle.skel_embed.proofs.runs.run_first.Goals as goal
