@@ -1,4 +1,5 @@
-use Rattle.std.proofs.Common.{◌≡◌, ℕ, ◌-◌, ◌<◌, List, length, take, drop, reverse, Option, None, Some, Contains, MatchOption, IfSome, ⊤, rules, tests, arith, ◌∙◌, subst, sym}
+use Rattle.std.proofs.Common.{◌≡◌, ℕ, ◌-◌, ◌<◌, List, length, take, drop, reverse, Option, None, Some, Contains, MatchOption, IfSome, rules, tests, arith, ◌∙◌, subst, sym}
+use Rattle.std.specs.Prelude.{⊤}
 use Rattle.std.proofs.lemmas.Iterator.{YieldsList-from_take, first_from_find}
 use Rattle.std.proofs.lemmas.Iterator.Adapters.{YieldsList-from_rev_slice}
 use Rattle.std.proofs.lemmas.List.{length-reverse, get_or-reverse, take-append-drop}
