@@ -6,9 +6,11 @@ use Rattle.gml_graph.specs.Named.{NamedGraph}
 use Rattle.kuratowski.specs.declared.subdivision.Subdivision.{Subdivision}
 use Rattle.multigraph.specs.Graph.{Multigraph}
 use Rattle.multigraph.specs.Part.{GraphPart}
+use Rattle.pair_split.specs.Tutte.{Node, IsTutte}
 use Rattle.skeletons.specs.Items as items
 use Rattle.faces.specs.Euler.{IsPlaneSystem}
 use Rattle.skel_embed.specs.Block.{lock_at, IsBlockState}
+use Rattle.skel_embed.specs.Planes.{IsOutcome}
 use Rattle.skel_embed.specs.declared.planes.Outcome.{Outcome}
 use Rattle.skel_embed.specs.declared.planes.Outcome.TheVariants.{Plane, Not}
 use Rattle.spqr_session.specs.Trees.{BlockTree, IsBlockTree, no_tree}
@@ -50,6 +52,12 @@ outcome_graph (Not g t s) = g
 abbrev pub KeepsTogether : Outcome → Type 0
 KeepsTogether (Plane p) = IsBlockState p
 KeepsTogether (Not g t s) = ⊤
+
+-- what was found is that of a block with this graph and of the tree of the graph
+pub record IsFound (g : Multigraph) (outcome : Outcome) : Type 0 where
+  pub nodes : List Node
+  pub tree : IsTutte g nodes
+  pub found : IsOutcome g nodes outcome
 
 -- what was found is right, and found of the part
 pub record IsEmbedded (part : GraphPart) (outcome : Outcome) : Type 0 where

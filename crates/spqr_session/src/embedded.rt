@@ -4,13 +4,16 @@ ghost use Rattle.blocks.specs.Blocks.{IsBlockStructure, block_at};
 ghost use Rattle.spqr_session.specs.Embedded.{block_view, KeepsTogether, IsEmbedded, IsInPlane, IsStartBlock, AreStartBlocks};
 
 mod changing;
+mod finding;
 mod returning;
+mod sharing;
 
 use blocks::Blocks;
+use finding::outcome_of;
 use multigraph::{Graph, Part};
 use pair_split::Splitter;
 use planarity::{Embedder, subdivision_excludes_plane};
-use skel_embed::{Outcome, plane_block};
+use skel_embed::Outcome;
 use spqr_tree::Tree;
 use std::alloc::{AllocError, Global};
 use std::marker::Model;
@@ -76,23 +79,23 @@ fn keeps_together(outcome: &Outcome)
     }
 }
 
-// Block `b` with its tree, embedded.
+// Block `b` with its tree, embedded; the blocks before it are those of the graph, at the start of a session.
 fn embedded_block<P: Splitter, E: Embedder>(
     alloc: Global,
     graph: &Graph,
     blocks: &Blocks,
     b: u32,
+    before: &[EmbeddedBlock],
     splitter: &mut P,
     embedder: &mut E,
 ) -> Result<EmbeddedBlock, AllocError>
     requires structure { IsBlockStructure graph.now blocks.now }
     requires block { b < length blocks.now.blocks }
+    requires start { AreStartBlocks None graph.now blocks.now.blocks b before.now }
     ensures { IfOk result (IsStartBlock None graph.now (block_at blocks.now.blocks b)) }
 {
     let part = graph.part(alloc, blocks.edges(b))?;
-    let comps = splitter.split(alloc, part.graph())?;
-    let tree = Tree::assemble(alloc, part.graph(), comps)?;
-    let outcome = plane_block(alloc, part.graph().copy(alloc)?, tree, embedder)?;
+    let outcome = outcome_of(alloc, part.graph(), before, splitter, embedder)?;
     keeps_together(&outcome);
     // That a block with a certificate has no plane rotation system.
     subdivision_excludes_plane();
@@ -100,7 +103,8 @@ fn embedded_block<P: Splitter, E: Embedder>(
 }
 
 /// The blocks of a graph, in order: each is made a graph of its own, split, and the split components are put together to its
-/// tree; then it is brought to its first plane rotation system, with no node locked, or has a certificate.
+/// tree; then it is brought to its first plane rotation system, with no node locked, or has a certificate. Where a block has the same
+/// graph as one of the last few before it, all this is copied.
 pub fn embedded_blocks<P: Splitter, E: Embedder>(
     alloc: Global,
     graph: &Graph,
@@ -112,9 +116,10 @@ pub fn embedded_blocks<P: Splitter, E: Embedder>(
     ensures { IfOk result (λ embedded. AreStartBlocks None graph.now blocks.now.blocks
         (length blocks.now.blocks) embedded.items) }
 {
-    let mut embedded = Vec::new(alloc);
+    let mut embedded = Vec::with_capacity(alloc, blocks.block_count() as usize)?;
     for b in 0..blocks.block_count() {
-        embedded.push(embedded_block(alloc, graph, blocks, b, splitter, embedder)?)?;
+        let block = embedded_block(alloc, graph, blocks, b, &embedded, splitter, embedder)?;
+        embedded.push(block)?;
     }
     Ok(embedded)
 }

@@ -16,6 +16,9 @@
 // be any drawing on the grid; there is one report on a setting and commands as far as these agree. Without memory a session stays
 // as it was.
 //
+// What is found of a block, its tree and its embedding or its certificate, depends on its graph alone, so a block with the graph of
+// one of the few blocks before it starts with a copy, which shares graph and tree: a long path has one tree for all its edges.
+//
 // `flip`, `permute` and `mirror` change a block in place. Their moves are of different nodes, and a move changes the choice of its
 // node alone, so each is taken back by one move to the choice that was there before, in any order: room for these is reserved
 // before anything changes. A change of a block sets its cut vertices to their first arrangements for the new blocks. So a list is

@@ -56,7 +56,8 @@ impl Model for Session {
 
 impl Session {
     /// Starts a session on a document and its graph, which is split into its blocks, and each block by the splitter; the
-    /// embedder is asked once for each triconnected node of their trees. The current rotation system of each planar block is then
+    /// embedder is asked once for each triconnected node of their trees. Neither is asked where one of the few blocks before has the
+    /// same graph: what was found of that one is copied. The current rotation system of each planar block is then
     /// the one that the file gives, or where it gives none the first plane one, no node is locked, and each cut vertex of a component
     /// whose blocks are planar has its first arrangement.
     ///
