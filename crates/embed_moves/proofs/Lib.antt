@@ -1,4 +1,5 @@
 -- Lemmas on moves that are made.
 pub mod Told
+pub mod Placing
 pub mod Arranging
 pub mod Returns

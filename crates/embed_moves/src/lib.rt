@@ -4,8 +4,9 @@
 // Mac Lane 1937). Each leads from a plane rotation system to a plane one. A locked node is not moved. A call that
 // fails says why, and leaves the block as it was. Nothing but `back` takes memory.
 //
-// That a permute back to the old choice leads back follows from the choices: a move keeps all choices but that of its node,
-// and a plane rotation system is determined by its choices.
+// A permute of few groups is made of exchanges of two of them. That these lead where the one move leads follows from the choices: each
+// exchange keeps all choices but that of the bond, and a plane rotation system is determined by its choices. Many groups are
+// brought into their order in one pass.
 #![tactic(auto)]
 
 mod carrying;
