@@ -103,7 +103,7 @@ pub(crate) fn permute_to(p: &mut PlaneBlock, k: u32, keys: &[u32])
 /// Fails with `WrongKind` if the node is not a bond, else with `BadOrder` if the keys are not an ordering of its own, else with
 /// `Locked` if it is locked; the block is then unchanged. Takes no memory: the keys are looked up one by one, and the groups are
 /// brought into their order, few of them by exchanges, and many in one pass. So it takes time in proportion to the square of the number of
-/// keys, and besides to the degrees of the poles, times that of `Tree::group`.
+/// keys, and to the degrees of the poles times the time of `Tree::group`.
 pub fn permute(p: &mut PlaneBlock, k: u32, keys: &[u32]) -> Result<(), PermuteFault>
     requires { k < length p.old.tree }
     ensures made { IfOk result (λ _. IsMade (permute k keys.now) p.old p.new) }

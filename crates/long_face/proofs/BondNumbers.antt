@@ -63,7 +63,7 @@ key-after keys place once l n = follow-next keys place (slice_index_or keys plac
 pub key-after_last : (keys : List ℕ) (place : ℕ) → is_distinct keys ≡ true → place < length keys → place + 1 ≡ length keys → successor keys (slice_index_or keys place 0) ≡ slice_index_or keys 0 0
 key-after_last keys place once l e = follow-end keys place (slice_index_or keys place 0) once (stands-at keys place once l) e
 
--- items with keys in increasing order, and an arrangement of the keys
+-- items with keys in increasing order, and a permutation of the keys
 module _ (items : List Item) (rising : Rises (map item_key items)) (keys : List ℕ) (all : IsPermutation (map item_key items) keys) where
   keys-once : is_distinct (map item_key items) ≡ true
   keys-once = told-distinct (map item_key items) (rises-once (map item_key items) rising)
@@ -77,7 +77,7 @@ module _ (items : List Item) (rising : Rises (map item_key items)) (keys : List 
   key-at : (i : ℕ) → i < length items → slice_index_or (map item_key items) i 0 ≡ (nth_item items i).key
   key-at i l = get_or-map item_key items i no_item 0 l
 
-  -- an item is told by its key
+  -- an item is determined by its key
   pub item-one : (i j : ℕ) → i < length items → j < length items → (nth_item items i).key ≡ (nth_item items j).key → i ≡ j
   item-one i j li lj e = same-place (map item_key items) i j keys-once (subst (λ n. i < n) (sym (length-map items item_key)) li) (subst (λ n. j < n) (sym (length-map items item_key)) lj) (key-at i li ∙ e ∙ sym (key-at j lj))
 
@@ -138,8 +138,8 @@ module _ (items : List Item) (rising : Rises (map item_key items)) (keys : List 
         | inl f ↦
             let at : (nth_item items i).key ≡ slice_index_or keys count 0 = e ∙ ap (λ z. slice_index_or keys z 0) f in
             let own : i ≡ here = item-one i here li lh (at ∙ sym is) in
-            let behind : next ≡ j = item-one next j ln lj (follows ∙ ap (successor keys) (sym at) ∙ s) in
-            ap (λ z. number_at second (2 * z + 1)) own ∙ odd-own ∙ ap (λ z. 2 * z) behind
+            let after : next ≡ j = item-one next j ln lj (follows ∙ ap (successor keys) (sym at) ∙ s) in
+            ap (λ z. number_at second (2 * z + 1)) own ∙ odd-own ∙ ap (λ z. 2 * z) after
         | inr n ↦ let before : q < count = omega (arith, l, n) in odd-other i (differs q i before li e) ∙ w.arriving q i j before li lj e s
       ];
     }

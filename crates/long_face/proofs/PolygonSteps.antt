@@ -1,5 +1,5 @@
 -- The face steps of a polygon: two items meet at a vertex, and the sum of their places tells the one by the other.
-use Rattle.std.proofs.Common.{◌≡◌, ◌≢◌, ℕ, ◌+◌, ◌-◌, ◌*◌, ◌<◌, ◌≤◌, ◌⊎◌, Bool, true, false, ◌||◌, ◌==◌, if◌then◌else◌, cond, inl, inr, List, length, slice_index_or, slice_set, add-one, refl, sym, ap, ◌∙◌, subst, arith, eq-eqb, eqb-true}
+use Rattle.std.proofs.Common.{◌≡◌, ◌≢◌, ℕ, ◌+◌, ◌-◌, ◌*◌, ◌<◌, ◌≤◌, Bool, true, false, ◌||◌, ◌==◌, if◌then◌else◌, cond, inl, inr, List, length, slice_index_or, slice_set, refl, sym, ap, ◌∙◌, subst, arith, eq-eqb, eqb-true}
 use Rattle.std.proofs.lemmas.Bool.{cases_eq, ne_eqb, or_cases, or_left, or_right}
 use Rattle.std.proofs.lemmas.List.{length-set, get_or-set_same, get_or-set_other}
 use Rattle.permutations.specs.Cyclic.{successor}
@@ -53,57 +53,6 @@ pub cleared : (nodes : List Node) (k : ℕ) (sums : List ℕ) (q : ℕ) → leng
     → ((p : ℕ) → p < q → slice_index_or sums (slice_index_or (node_at nodes k).vertices p 0) 0 ≡ 0) → AreEndSums nodes k 0 sums
 cleared nodes k sums q e within zeros v h = let p = place-of (node_at nodes k).vertices v h in (within v h, ap (λ z. slice_index_or sums z 0) (sym p.2) ∙ zeros p.0 (omega (arith, p.1, e)))
 
--- an item more, at its two ends
-module _ (nodes : List Node) (k count : ℕ) (sums : List ℕ) (old : AreEndSums nodes k count sums) (a b : ℕ) (ea : a ≡ (node_item nodes k count).a) (eb : b ≡ (node_item nodes k count).b) (two : a ≢ b) (ha : has_vertex nodes k a ≡ true) (hb : has_vertex nodes k b ≡ true) where
-  abbrev first : List ℕ
-  first = slice_set sums a (slice_index_or sums a 0 + count)
-
-  abbrev second : List ℕ
-  second = slice_set (slice_set sums a (slice_index_or sums a 0 + count)) b (slice_index_or (slice_set sums a (slice_index_or sums a 0 + count)) b 0 + count)
-
-  long : length second ≡ length sums
-  long = length-set first b (slice_index_or first b 0 + count) ∙ length-set sums a (slice_index_or sums a 0 + count)
-
-  -- what is read at the second end
-  pub read-second : slice_index_or first b 0 ≡ slice_index_or sums b 0
-  read-second = get_or-set_other sums a b (slice_index_or sums a 0 + count) 0 (λ e. two (sym e))
-
-  at-first : slice_index_or second a 0 ≡ slice_index_or sums a 0 + count
-  at-first = get_or-set_other first b a (slice_index_or first b 0 + count) 0 two ∙ get_or-set_same sums a (slice_index_or sums a 0 + count) 0 ((old a ha).0)
-
-  at-second : slice_index_or second b 0 ≡ slice_index_or sums b 0 + count
-  at-second = get_or-set_same first b (slice_index_or first b 0 + count) 0 (subst (λ n. b < n) (sym (length-set sums a (slice_index_or sums a 0 + count))) ((old b hb).0)) ∙ ap (λ z. z + count) read-second
-
-  at-other : (v : ℕ) → v ≢ a → v ≢ b → slice_index_or second v 0 ≡ slice_index_or sums v 0
-  at-other v na nb = get_or-set_other first b v (slice_index_or first b 0 + count) 0 nb ∙ get_or-set_other sums a v (slice_index_or sums a 0 + count) 0 na
-
-  has-end : (v : ℕ) → (v ≡ a) ⊎ (v ≡ b) → ends_item v (node_item nodes k count) ≡ true
-  has-end v (inl e) = or_left ((node_item nodes k count).a == v) ((node_item nodes k count).b == v) (eq-eqb (node_item nodes k count).a v (sym (e ∙ ea)))
-  has-end v (inr e) = or_right ((node_item nodes k count).a == v) ((node_item nodes k count).b == v) (eq-eqb (node_item nodes k count).b v (sym (e ∙ eb)))
-
-  no-end : (v : ℕ) → v ≢ a → v ≢ b → ends_item v (node_item nodes k count) ≡ false
-  no-end v na nb = rw (ne_eqb (node_item nodes k count).a v (λ e. na (sym (ea ∙ e))), ne_eqb (node_item nodes k count).b v (λ e. nb (sym (eb ∙ e)))) refl
-
-  pub sums-more : AreEndSums nodes k (count + 1) second
-  sums-more v h = (subst (λ n. v < n) (sym long) ((old v h).0), at (cases_eq v a) (cases_eq v b))
-    where
-      with-end : (v ≡ a) ⊎ (v ≡ b) → slice_index_or second v 0 ≡ slice_index_or sums v 0 + count → slice_index_or second v 0 ≡ end_sum (node_at nodes k).items v (count + 1)
-      with-end c e = e ∙ ap (λ z. z + count) ((old v h).1) ∙ ap (λ (t : Bool). end_sum (node_at nodes k).items v count + cond t count 0) (sym (has-end v c)) ∙ one
-        where
-          one : end_sum (node_at nodes k).items v count + cond (ends_item v (nth_item (node_at nodes k).items count)) count 0 ≡ end_sum (node_at nodes k).items v (count + 1)
-          one = rw add-one refl
-
-      at : (v ≡ a) ⊎ (v ≢ a) → (v ≡ b) ⊎ (v ≢ b) → slice_index_or second v 0 ≡ end_sum (node_at nodes k).items v (count + 1)
-      at (inl e) c = with-end (inl e) (ap (λ z. slice_index_or second z 0) e ∙ at-first ∙ ap (λ z. slice_index_or sums z 0 + count) (sym e))
-      at (inr n) (inl e) = with-end (inr e) (ap (λ z. slice_index_or second z 0) e ∙ at-second ∙ ap (λ z. slice_index_or sums z 0 + count) (sym e))
-      at (inr n) (inr m) = at-other v n m ∙ (old v h).1 ∙ plus ∙ ap (λ (t : Bool). end_sum (node_at nodes k).items v count + cond t count 0) (sym (no-end v n m)) ∙ one
-        where
-          plus : end_sum (node_at nodes k).items v count ≡ end_sum (node_at nodes k).items v count + 0
-          plus = omega arith
-
-          one : end_sum (node_at nodes k).items v count + cond (ends_item v (nth_item (node_at nodes k).items count)) count 0 ≡ end_sum (node_at nodes k).items v (count + 1)
-          one = rw add-one refl
-
 -- the ends of an item at which its place is added, and the sums there
 module _ (g : Multigraph) (nodes : List Node) (b : IsBlockTree g nodes) (limits : IsWithinLimits g) (k : ℕ) (l : k < length nodes) (count : ℕ) (m : count < length (node_at nodes k).items) (sums : List ℕ) (old : AreEndSums nodes k count sums)
     (items : List Item) (e : items ≡ (node_at nodes k).items) where
@@ -142,9 +91,6 @@ module _ (g : Multigraph) (nodes : List Node) (b : IsBlockTree g nodes) (limits 
 
   pub second-small : slice_index_or (slice_set sums (nth_item items count).a (slice_index_or sums (nth_item items count).a 0 + count)) (nth_item items count).b 0 + count ≤ 2500050000
   second-small = subst (λ n. n + count ≤ 2500050000) (sym (get_or-set_other sums first_end second_end (slice_index_or sums first_end 0 + count) 0 (λ q. differ (sym q)))) (small second_end second-has)
-
-  pub item-added : AreEndSums nodes k (count + 1) (slice_set (slice_set sums (nth_item items count).a (slice_index_or sums (nth_item items count).a 0 + count)) (nth_item items count).b (slice_index_or (slice_set sums (nth_item items count).a (slice_index_or sums (nth_item items count).a 0 + count)) (nth_item items count).b 0 + count))
-  item-added = sums-more nodes k count sums old first_end second_end (ap (λ (z : List Item). (nth_item z count).a) e) (ap (λ (z : List Item). (nth_item z count).b) e) differ first-has second-has
 
 -- a polygon, with a rotation system of its skeleton
 module _ (g : Multigraph) (nodes : List Node) (b : IsBlockTree g nodes) (k : ℕ) (is : IsNodeOfKind nodes k S) (family : List (List (List ℕ))) (f : AreSkeletonSystems nodes family) (i v : ℕ) (m : IsItemEnd nodes k i v) where

@@ -1,13 +1,11 @@
 -- The rows of the nodes, and that all is ready for the walk.
-use Rattle.std.proofs.Common.{◌≡◌, ℕ, ◌*◌, ◌/◌, ◌<◌, ◌≤◌, cond, List, [], length, slice_index_or, refl, sym, ap, ◌∙◌, subst}
+use Rattle.std.proofs.Common.{◌≡◌, ℕ, ◌*◌, ◌/◌, ◌<◌, ◌≤◌, cond, List, length, slice_index_or, refl, sym, ap, ◌∙◌, subst}
 use Rattle.permutations.specs.Count.{sum_below}
 use Rattle.permutations.proofs.Sums.{sum_below-ext}
 use Rattle.multigraph.specs.Graph.{Multigraph, IsWithinLimits, edge_count, max_edges}
 use Rattle.faces.specs.Euler.{dart_count, IsPlane}
 use Rattle.pair_split.specs.Tutte.{Node, node_at}
 use Rattle.skeletons.specs.Items.{IsBlockTree}
-use Rattle.faces.specs.Steps.{AreFaceSteps}
-use Rattle.skel_decompose.specs.Followers.{AreStepsOf}
 use Rattle.skeletons.specs.Families.{skeleton_graph, system_at, AreSkeletonSystems}
 use Rattle.skeleton_runs.proofs.SkeletonGraph.{graph-edges}
 use Rattle.skeleton_planes.proofs.SkeletonDarts.{dart-item}
@@ -58,12 +56,7 @@ module _ (g : Multigraph) (nodes : List Node) (b : IsBlockTree g nodes) (limits 
     pair = a.top.pair;
   }
 
--- the steps of a node as they are read
-pub row-steps : (nodes : List Node) (family : List (List (List ℕ))) (rows : List (List ℕ)) → AreStepsOf nodes family rows → (k : ℕ) → k < length nodes → (seen : List ℕ) → seen ≡ slice_index_or rows k []
-    → AreFaceSteps (skeleton_graph nodes k) (system_at family k) seen
-row-steps nodes family rows steps k l seen q = subst (AreFaceSteps (skeleton_graph nodes k) (system_at family k)) (sym q) (steps.steps k l)
-
--- they are numbers of faces
+-- numbers that tell the faces are numbers of faces
 pub numbers-tell : (g : Multigraph) (r : List (List ℕ)) (numbers : List ℕ) → NumberFaces g r numbers → AreFaceNumbers g r numbers
 numbers-tell g r numbers n = record { places = n.darts; same = n.same }
 

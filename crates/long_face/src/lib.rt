@@ -8,15 +8,18 @@
 // next to the link. So wanted faces fit together, and the block has a face as long as the top's weighs in the plane
 // rotation system with these choices and the present ones elsewhere.
 //
-// `longest` gives the greatest length and the moves. It reads the faces of the skeletons off the present rotation system (skel_decompose), numbered by their darts, and the weights
-// (face_weights), walks over the nodes from the top, each after its parent, and compares no rotation systems: no copy of the block is made,
-// and no ring is moved. The laws are its three parts: weights bound the faces of a block, wanted faces are reached, and a walk from the
+// `longest` gives the greatest length and the moves. It numbers the faces of the skeletons by their darts: those of a bond by its kept choice,
+// those of a polygon by its items, two of which meet at each vertex, and those of other nodes, where there are any, by face steps read
+// off the present rotation system (skel_decompose). With the weights (face_weights) it walks over the nodes from the top, each after its
+// parent, and compares no rotation systems: no copy of the block is made, and no ring is moved. The weights of a node are listed only
+// where a face of it is wanted. The laws are its three parts: weights bound the faces of a block, wanted faces are reached, and a walk from the
 // top leads to a longest face.
 //
 // The lemmas (module of proofs/ in front):
 //   Lengths    listed-dart, dart-listed: the faces that are listed are those of the darts
 //   Chosen     demands: faces chosen by one dart each fit together; link-two: the two darts of a link are on two faces
 //   Bonds      bond-next, bond-face, bond-sum: the faces of a bond by its choice; Possible: choices that are possible
+//   BondNumbers written-more, bond-known: numbers of these faces; PolygonSteps polygon-sum, leaves-first, leaves-second: steps in a polygon
 //   Reached    reached: wanted faces are faces of some plane rotation system; Greatest table-bounds, wanted-reached
 //   FromTop    are-wanted: each node wants what its parent asks for; Best best-below: the heaviest face weighs enough
 //   FaceLengths has-found, has-none: whether a face has a length; Asked one-side; Walked, Steps: the walk from the top; RowsMade known-ready; Final

@@ -1,4 +1,4 @@
-// The face steps of a polygon: two items meet at each of its vertices, and a face that arrives by one of them goes on by the other, whose
+// The face steps of a polygon: two items meet at each of its vertices, and a face that arrives by one of them continues by the other, whose
 // place is the sum of both places without that of the first.
 
 ghost use Rattle.std.specs.Prelude.{◌≡◌, ◌<◌, ◌+◌, ℕ, true, List, length, IfOk};

@@ -1,4 +1,4 @@
--- Groups around a vertex brought into the cyclic order of keys: each run put behind the one before it.
+-- Groups around a vertex brought into the cyclic order of keys: each run put after the one before it.
 use Rattle.std.proofs.Common.{◌≡◌, ℕ, ◌+◌, ◌<◌, ◌≤◌, inl, inr, Bool, true, false, List, [], ◌∷◌, ◌++◌, length, take, slice_index_or, refl, sym, ap, ◌∙◌, subst, arith, append_assoc, append-nil, IsPermutation}
 use Rattle.std.proofs.lemmas.Bool.{both_ways}
 use Rattle.std.proofs.lemmas.List.{length-append, length-map, length-reverse, take_all, take_more}
@@ -35,7 +35,7 @@ pub record IsCutAt (gs : List (ℕ × List ℕ)) (a : ℕ) : Type 0 where
 pub cut-at : (gs : List (ℕ × List ℕ)) (a : ℕ) → is_member a (group_keys gs) ≡ true → IsCutAt gs a
 cut-at gs a m = let w = group-with a gs m in record { own = w.1; ahead = w.0; behind = w.2; is = w.3; has = w.4 }
 
--- the group with this key first, then those behind it, those in front of both, and those between
+-- the group with this key first, then those after it, those before both, and those between
 module _ (key : ℕ → ℕ) (m : List ℕ) (front rest : List (ℕ × List ℕ)) (a : ℕ) (d : is_distinct m ≡ true) (r : InRuns key m (front ++ rest)) (two : 1 < length (front ++ rest)) (w : IsCutAt rest a) where
   abbrev pub others : List (ℕ × List ℕ)
   others = (w.behind ++ front) ++ w.ahead
@@ -59,7 +59,7 @@ module _ (key : ℕ → ℕ) (m : List ℕ) (front rest : List (ℕ × List ℕ)
   pub cut-run : (first last : ℕ) → BeginsRun key m a first → EndsRun key m first last → IsRun first last w.own.1
   cut-run first last b e = run-is key m w.own others d seen some-others first last (subst (λ z. BeginsRun key m z first) (sym w.has) b) e
 
--- the groups of the keys passed so far stand in this order, and behind them the others; the last edge of those passed is known
+-- the groups of the keys passed so far are in this order, and after them the others; the last edge of those passed is known
 pub record IsArranging (key : ℕ → ℕ) (l keys m : List ℕ) (i last : ℕ) : Type 0 where
   pub groups : List (ℕ × List ℕ)
   pub placed : List (ℕ × List ℕ)
@@ -166,7 +166,7 @@ module _ (key : ℕ → ℕ) (l keys m : List ℕ) (i last : ℕ) (w : IsArrangi
       pub arranging-outside : IsOutside m first end last
       arranging-outside = outside-groups key m next-cut.own (next-cut.behind ++ w.placed) next-cut.ahead first end last now-seen run behind-ends
 
-      -- put behind them, it is one more of them
+      -- put after them, it is one more of them
       pub arranging-more : (n : List ℕ) → IsRunMoved m n first end last → IsArranging key l keys n (i + 1) end
       arranging-more n p = record {
         groups = w.groups;

@@ -57,7 +57,7 @@ bond-member s is k a node m =
     let p = runs-arranged s.graph s.tree is.block s.rotation is.plane k node (least_vertex s.tree k) w.0 (least-has s.graph s.tree is.block k node.0) w.1 in
     ap (is_member a) (is.choices.is k node.0 ∙ sym w.2) ∙ permutation-member (node_keys s.tree k) (group_keys w.0) a p ∙ m
 
--- an arrangement of a bond's keys is one of its kept choice
+-- a permutation of a bond's keys is one of its kept choice
 pub kept-arranged : (s : BlockState) → IsBlockState s → (k : ℕ) (keys : List ℕ) → IsNodeOfKind s.tree k P → IsPermutation (node_keys s.tree k) keys → IsPermutation (slice_index_or s.choices k []) keys
 kept-arranged s is k keys node a =
     let w = least-groups s.graph s.tree is.block s.rotation is.plane k node in
