@@ -1,28 +1,34 @@
--- The lengths of the faces of a rotation system, as sums of ones, and whether one of them is a given number.
-use Rattle.std.proofs.Common.{◌≡◌, ℕ, zero, suc, ◌*◌, ◌/◌, ◌<◌, ◌≤◌, ◌==◌, true, false, cond, inl, inr, List, [], ◌∷◌, length, replicate, sym, ap, ◌∙◌, subst, arith, refl, eq-eqb, eqb-true}
+-- The lengths of the faces of a rotation system: of each dart, how many darts have its number; and whether one of them is a given number.
+use Rattle.std.proofs.Common.{◌≡◌, ℕ, zero, suc, ◌+◌, ◌<◌, ◌==◌, Bool, true, false, inl, inr, List, [], ◌∷◌, length, slice_set, refl, sym, ap, ◌∙◌, subst, arith, eq-eqb, eqb-true}
 use Rattle.std.specs.List.{list_any}
-use Rattle.std.proofs.lemmas.Bool.{both_ways, or_left, or_right, or_cases}
-use Rattle.permutations.specs.Count.{sum_below}
-use Rattle.permutations.proofs.Sums.{sum_below-ext, sum_below-const, count-sum}
-use Rattle.multigraph.specs.Graph.{Multigraph, IsGraph, edge_count, max_edges}
+use Rattle.std.proofs.lemmas.Bool.{both_ways, cases_eq, ne_eqb, or_left, or_right, or_cases}
+use Rattle.std.proofs.lemmas.List.{get_or-set_same, get_or-set_other}
+use Rattle.permutations.specs.Count.{count}
+use Rattle.permutations.proofs.Count.{count-ext, count-positive, count-yes, count-no, last-passing}
+use Rattle.multigraph.specs.Graph.{Multigraph, IsGraph}
 use Rattle.rotations.specs.Rotation.{IsRotationSystem}
 use Rattle.faces.specs.Euler.{dart_count}
 use Rattle.skeleton_faces.specs.Faces.{on_one_face, face_length}
-use Rattle.face_weights.specs.Sums.{weight_in, AreFaceSums}
+use Rattle.face_weights.specs.Numbers.{number_at, NumberFaces}
+use Rattle.face_weights.specs.Sums.{weight_in}
 use Rattle.long_face.specs.Longest.{HasFace}
 use Rattle.long_face.proofs.Lengths.{listed-dart, dart-listed}
 
--- a list of ones
-pub ones-are : (n i : ℕ) → i < n → weight_in (replicate n 1) i ≡ 1
-ones-are zero i l = absurd (omega (arith, l))
-ones-are (suc n) zero l = refl
-ones-are (suc n) (suc i) l = ones-are n i (omega (arith, l))
-
-pub ones-few : (n : ℕ) → n ≤ max_edges → sum_below n (weight_in (replicate n 1)) ≤ 2 * max_edges
-ones-few n l =
-    let e : sum_below n (weight_in (replicate n 1)) ≡ sum_below n (λ x. 1) = sum_below-ext n (weight_in (replicate n 1)) (λ x. 1) (λ i m. ones-are n i m) in
-    let c : sum_below n (λ x. 1) ≡ n * 1 = sum_below-const n 1 in
-    omega (arith, e, c, l)
+-- one dart more
+pub counts-more : (numbers counts : List ℕ) (d : ℕ) → number_at numbers d < length counts → ((t : ℕ) → t < length counts → weight_in counts t ≡ count d (λ y. t == number_at numbers y))
+    → (t : ℕ) → t < length counts → weight_in (slice_set counts (number_at numbers d) (weight_in counts (number_at numbers d) + 1)) t ≡ count (d + 1) (λ y. t == number_at numbers y)
+counts-more numbers counts d l h t k = elim (cases_eq t (number_at numbers d)) [
+  | inl e ↦
+      let one : (t == number_at numbers d) ≡ true = eq-eqb t (number_at numbers d) e in
+      let new : weight_in (slice_set counts (number_at numbers d) (weight_in counts (number_at numbers d) + 1)) t ≡ weight_in counts (number_at numbers d) + 1 =
+      ap (weight_in (slice_set counts (number_at numbers d) (weight_in counts (number_at numbers d) + 1))) e ∙ get_or-set_same counts (number_at numbers d) (weight_in counts (number_at numbers d) + 1) 0 l in
+      omega (arith, new, h t k, ap (weight_in counts) e, count-yes d (λ y. t == number_at numbers y) one)
+  | inr n ↦
+      let one : (t == number_at numbers d) ≡ false = ne_eqb t (number_at numbers d) n in
+      let new : weight_in (slice_set counts (number_at numbers d) (weight_in counts (number_at numbers d) + 1)) t ≡ weight_in counts t =
+      get_or-set_other counts (number_at numbers d) t (weight_in counts (number_at numbers d) + 1) 0 n in
+      omega (arith, new, h t k, count-no d (λ y. t == number_at numbers y) one)
+]
 
 -- a number of a list
 any-at : (x : ℕ) (l : List ℕ) → list_any (λ y. y == x) l ≡ true → (d : ℕ) × (d < length l) × (weight_in l d ≡ x)
@@ -37,19 +43,39 @@ at-any x [] d m e = absurd (omega (arith, m))
 at-any x (y ∷ l) zero m e = or_left (y == x) (list_any (λ z. z == x) l) (eq-eqb y x e)
 at-any x (y ∷ l) (suc d) m e = or_right (y == x) (list_any (λ z. z == x) l) (at-any x l d (omega (arith, m)) e)
 
-module _ (g : Multigraph) (r : List (List ℕ)) (ok : IsGraph g) (system : IsRotationSystem g r) (sums : List ℕ) (s : AreFaceSums g r (replicate (edge_count g) 1) sums) where
-  -- the sums are lengths
-  long : (d : ℕ) → d < dart_count g → weight_in sums d ≡ face_length g r d
-  long d l = s.each d l ∙ sum_below-ext (dart_count g) (λ y. cond (on_one_face g r d y) (weight_in (replicate (edge_count g) 1) (y / 2)) 0) (λ y. cond (on_one_face g r d y) 1 0) (λ y m. ap (λ z. cond (on_one_face g r d y) z 0) (ones-are (edge_count g) (y / 2) (omega (arith, m))))
-      ∙ sym (count-sum (dart_count g) (on_one_face g r d))
+-- a number that passes, where the count is not zero
+counted : (n : ℕ) (p : ℕ → Bool) → 0 < count n p → (x : ℕ) × (x < n) × (p x ≡ true)
+counted n p l = let w = last-passing n p (omega (arith, l)) in (w.0, w.1, w.2)
 
-  pub has-found : (len : ℕ) → list_any (λ y. y == len) sums ≡ true → HasFace g r len
-  has-found len t =
-      let w = any-at len sums t in
-      let l : w.0 < dart_count g = subst (λ n. w.0 < n) s.number w.1 in
-      subst (HasFace g r) (sym (long w.0 l) ∙ w.2) (dart-listed g r ok system w.0 l)
+-- how many darts have each number
+module _ (g : Multigraph) (r : List (List ℕ)) (ok : IsGraph g) (system : IsRotationSystem g r) (numbers counts : List ℕ) (n : NumberFaces g r numbers) (places : length counts ≡ length numbers)
+    (each : (t : ℕ) → t < length numbers → weight_in counts t ≡ count (length numbers) (λ d. t == number_at numbers d)) where
+  -- the count of a dart's number is the length of its face
+  long : (d : ℕ) → d < dart_count g → weight_in counts (number_at numbers d) ≡ face_length g r d
+  long d l = each (number_at numbers d) (subst (λ z. number_at numbers d < z) (sym n.darts) (n.within d l))
+      ∙ ap (λ z. count z (λ y. number_at numbers d == number_at numbers y)) n.darts
+      ∙ count-ext (dart_count g) (λ y. number_at numbers d == number_at numbers y) (on_one_face g r d) (λ y m. n.same d y l m)
 
-  pub has-none : (len : ℕ) → list_any (λ y. y == len) sums ≡ false → HasFace g r len → ⊥
+  -- each face has a dart
+  some-dart : (d : ℕ) → d < dart_count g → 0 < face_length g r d
+  some-dart d l = count-positive (dart_count g) (on_one_face g r d) d l (sym (n.same d d l l) ∙ eq-eqb (number_at numbers d) (number_at numbers d) refl)
+
+  pub has-found : (len : ℕ) → 0 < len → list_any (λ y. y == len) counts ≡ true → HasFace g r len
+  has-found len some t =
+      let w = any-at len counts t in
+      let l : w.0 < length numbers = subst (λ z. w.0 < z) places w.1 in
+      let d = counted (length numbers) (λ d. w.0 == number_at numbers d) (omega (arith, some, w.2, each w.0 l)) in
+      let m : d.0 < dart_count g = subst (λ z. d.0 < z) n.darts d.1 in
+      let is : w.0 ≡ number_at numbers d.0 = eqb-true w.0 (number_at numbers d.0) d.2 in
+      subst (HasFace g r) (sym (long d.0 m) ∙ sym (ap (weight_in counts) is) ∙ w.2) (dart-listed g r ok system d.0 m)
+
+  pub has-none : (len : ℕ) → list_any (λ y. y == len) counts ≡ false → HasFace g r len → ⊥
   has-none len f h =
       let w = listed-dart g r ok system len h in
-      both_ways (list_any (λ y. y == len) sums) f (at-any len sums w.0 (subst (λ n. w.0 < n) (sym s.number) w.1) (long w.0 w.1 ∙ w.2))
+      let l : number_at numbers w.0 < length counts = subst (λ z. number_at numbers w.0 < z) (sym (places ∙ n.darts)) (n.within w.0 w.1) in
+      both_ways (list_any (λ y. y == len) counts) f (at-any len counts (number_at numbers w.0) l (long w.0 w.1 ∙ w.2))
+
+  pub none-empty : HasFace g r 0 → ⊥
+  none-empty h =
+      let w = listed-dart g r ok system 0 h in
+      omega (arith, w.2, some-dart w.0 w.1)

@@ -1,23 +1,23 @@
 // The faces of the skeletons, by the numbers of their darts: those of bonds from the kept choices, those of polygons from their items, and
-// those of other nodes from the face steps that are read off the rotation system, which is done only where there are such nodes.
+// those of other nodes from what follows their items, which is read off the rotation system only where there are such nodes.
 
 ghost use Rattle.std.specs.Prelude.{◌≡◌, ◌<◌, ◌⊎◌, ℕ, false, List, length, IfOk};
 ghost use Rattle.pair_split.specs.Tutte.{node_at};
 ghost use Rattle.pair_split.specs.declared.components.Kind.TheVariants.{S, P};
 ghost use Rattle.skeletons.specs.Families.{AreSkeletonSystems, FollowsFamily, skeleton_graph, system_at};
 ghost use Rattle.face_weights.specs.Numbers.{KnowFaces, NumberFaces};
-ghost use Rattle.long_face.specs.Present.{HaveOtherSteps};
+ghost use Rattle.long_face.specs.Present.{HaveOtherFollowers};
 
 use crate::bond_faces::bond_numbers;
 use crate::polygons::polygon_steps;
 use face_weights::number_faces;
 use pair_split::Kind;
-use skel_decompose::{FlatLists, face_steps};
+use skel_decompose::{FlatLists, face_steps, followers};
 use skel_embed::PlaneBlock;
 use spqr_tree::Tree;
 use std::alloc::{AllocError, Global};
 
-// Whether the face steps of node k are read off the rotation system.
+// Whether what follows the items of node k is read off the rotation system.
 fn is_read(tree: &Tree, k: u32) -> bool
     requires { k < length tree.now }
     ensures { result ≡ false → ((node_at tree.now k).kind ≡ S) ⊎ ((node_at tree.now k).kind ≡ P) }
@@ -41,14 +41,14 @@ fn some_read(tree: &Tree) -> bool
     false
 }
 
-// The face steps of the nodes that are neither polygons nor bonds.
-fn other_steps(alloc: Global, p: &PlaneBlock) -> Result<FlatLists, AllocError>
-    ensures { IfOk result (HaveOtherSteps p.now.tree p.now.rotation) }
+// What follows the items of the nodes, where some node is neither a polygon nor a bond.
+fn other_followers(alloc: Global, p: &PlaneBlock) -> Result<FlatLists, AllocError>
+    ensures { IfOk result (HaveOtherFollowers p.now.tree p.now.rotation) }
 {
     p.belongs();
     p.graph().keeps_limits();
     if some_read(p.tree()) {
-        return face_steps(alloc, p.graph(), p.tree(), p.rotation());
+        return Ok(followers(alloc, p.graph(), p.tree(), p.rotation())?);
     }
     FlatLists::with_capacity(alloc, 0)
 }
@@ -63,7 +63,7 @@ fn numbers_at(
     own: &mut Vec<u32>,
 ) -> Result<(), AllocError>
     requires node { k < length p.now.tree }
-    requires others { HaveOtherSteps p.now.tree p.now.rotation others.now }
+    requires others { HaveOtherFollowers p.now.tree p.now.rotation others.now }
     requires places { length sums.old ≡ p.now.graph.vertex_count }
     ensures places { length sums.new ≡ length sums.old }
     ensures numbers { IfOk result (λ _. (family : List (List (List ℕ))) → AreSkeletonSystems p.now.tree family
@@ -79,7 +79,10 @@ fn numbers_at(
             polygon_steps(tree, k, sums, steps)?;
             number_faces(steps, own)
         }
-        Kind::R | Kind::B => number_faces(others.at(k as usize), own),
+        Kind::R | Kind::B => {
+            face_steps(tree, others, k, steps)?;
+            number_faces(steps, own)
+        }
     }
 }
 
@@ -89,7 +92,7 @@ pub(crate) fn present_faces(alloc: Global, p: &PlaneBlock) -> Result<FlatLists, 
         → FollowsFamily p.now.tree family p.now.rotation → KnowFaces p.now.tree family faces) }
 {
     p.belongs();
-    let others = other_steps(alloc, p)?;
+    let others = other_followers(alloc, p)?;
     let mut faces = FlatLists::with_capacity(alloc, p.tree().node_count() as usize)?;
     let mut sums = vec![in alloc; 0; p.graph().vertex_count() as usize]?;
     let (mut steps, mut own) = (Vec::new(alloc), Vec::new(alloc));

@@ -9,8 +9,7 @@ use Rattle.pair_split.specs.Tutte.{Node, components, node_at, node_item, group}
 use Rattle.pair_split.specs.declared.components.What.TheVariants.{Real, Link}
 use Rattle.skeletons.specs.Items.{ends_item, IsBlockTree}
 use Rattle.skeletons.specs.Round.{IsContiguous}
-use Rattle.skeletons.specs.Families.{skeleton_graph, system_at, AreSkeletonSystems, FollowsFamily}
-use Rattle.faces.specs.Steps.{AreFaceSteps}
+use Rattle.skeletons.specs.Families.{system_at, AreSkeletonSystems, FollowsFamily}
 use Rattle.skel_compose.specs.Homes.{IsHome}
 
 -- r is a rotation system of the block with this tree, and the groups of each node are in runs
@@ -86,8 +85,3 @@ IsOpen nodes e k j = (j ≡ k → ⊥) → (p h : ℕ) → p < length (node_at n
 -- what a walk from edge e around v that has come to node k has still to write is ahead of it
 abbrev pub IsAhead : List Node → List (List ℕ) → List (List (List ℕ)) → List (List ℕ) → ℕ → ℕ → ℕ → Type 0
 IsAhead nodes r family table v e k = (j h : ℕ) → IsLastOf nodes r v e j h → HasFollower nodes family table j h v ⊎ IsOpen nodes e k j
-
--- the face steps of the skeletons, with the rotation systems that the family has for them
-pub record AreStepsOf (nodes : List Node) (family : List (List (List ℕ))) (rows : List (List ℕ)) : Type 0 where
-  pub each : length rows ≡ length nodes
-  pub steps : (k : ℕ) → k < length nodes → AreFaceSteps (skeleton_graph nodes k) (system_at family k) (row_at rows k)

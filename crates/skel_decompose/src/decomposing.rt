@@ -5,12 +5,9 @@ ghost use Rattle.rotations.specs.Rotation.{IsRotationSystem};
 ghost use Rattle.skeletons.specs.Items.{IsBlockTree};
 ghost use Rattle.skeletons.specs.Round.{IsContiguous};
 ghost use Rattle.skeletons.specs.Families.{AreSkeletonSystems, FollowsFamily};
-ghost use Rattle.skel_decompose.specs.Followers.{AreStepsOf};
 
 use crate::filling::followers;
-use crate::lists::FlatLists;
 use crate::members::member_of;
-use crate::steps::steps_of;
 use multigraph::Graph;
 use rotations::Rotation;
 use spqr_tree::Tree;
@@ -40,32 +37,4 @@ pub fn decompose(
         members.push(member_of(alloc, tree, &table, k)?)?;
     }
     Ok(members)
-}
-
-/// The face steps of the skeletons, of each node those of the rotation system that the family of a rotation system of the block has
-/// there: for each dart of the skeleton the next one of its face. No skeleton is made as a graph of its own, and no node has a list of
-/// its own in memory.
-///
-/// Fails only if memory runs out.
-pub fn face_steps(
-    alloc: Global,
-    g: &Graph,
-    tree: &Tree,
-    r: &Rotation,
-) -> Result<FlatLists, AllocError>
-    requires block { IsBlockTree g.now tree.now }
-    requires system { IsRotationSystem g.now r.now }
-    requires runs { IsContiguous tree.now r.now }
-    ensures { IfOk result (λ steps. (family : List (List (List ℕ))) → AreSkeletonSystems tree.now family
-        → FollowsFamily tree.now family r.now → AreStepsOf tree.now family steps) }
-{
-    g.keeps_limits();
-    let table = followers(alloc, g, tree, r)?;
-    let mut steps = FlatLists::with_capacity(alloc, tree.node_count() as usize)?;
-    let mut own = Vec::new(alloc);
-    for k in 0..tree.node_count() {
-        steps_of(tree, &table, k, &mut own)?;
-        steps.push(&own)?;
-    }
-    Ok(steps)
 }

@@ -46,8 +46,10 @@ fn fill_from(
     }
 }
 
-// What follows each item of each node around its ends.
-pub(crate) fn followers(
+/// What follows each item of each node around both of its ends, in the family that a rotation system of the block follows: a list for each
+/// node, with two places for each of its items. Of an item the first is for its lesser end. It is read off the rotation system, in
+/// time n log n for n items. Fails only if memory runs out.
+pub fn followers(
     alloc: Global,
     g: &Graph,
     tree: &Tree,

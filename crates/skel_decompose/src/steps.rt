@@ -30,8 +30,10 @@ fn onward(tree: &Tree, table: &FlatLists, k: u32, i: u32, v: u32) -> u32
     item_place(tree, k, next, v) as u32
 }
 
-// Puts the face steps of the skeleton of node k into `steps`.
-pub(crate) fn steps_of(
+/// Puts the face steps of the skeleton of node `k` into `steps`, where `table` has what follows the items (`followers`): for each dart of the
+/// skeleton the next one of its face, in the rotation system that the family has there. No skeleton is made as a graph of its own. In
+/// linear time. Fails only if memory runs out.
+pub fn face_steps(
     tree: &Tree,
     table: &FlatLists,
     k: u32,

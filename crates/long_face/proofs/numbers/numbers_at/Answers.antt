@@ -12,6 +12,7 @@ use Rattle.skeletons.specs.Moves.{IsNodeOfKind}
 use Rattle.skeletons.proofs.Leading.{bond-choice}
 use Rattle.skeleton_runs.proofs.Contiguous.{plane-contiguous}
 use Rattle.skeleton_runs.proofs.SkeletonGraph.{skeleton-graph, skeleton-limits}
+use Rattle.skel_decompose.specs.Followers.{HasFollowers, IsTable}
 use Rattle.long_face.specs.Bonds.{AreBondNumbers}
 use Rattle.long_face.proofs.BondNumbers.{bond-known}
 use Rattle.long_face.proofs.Greatest.{present-family}
@@ -57,27 +58,38 @@ number_faces-requires c =
       subst (AreFaceSteps (skeleton_graph s.tree c.args.k) (system_at w.0 c.args.k)) (sym c.deref.ensures.value) (steps w.0 w.1),
     )
 
-pub at-requires : goal.at-requires
-at-requires c =
+pub face_steps-requires-clause-table : goal.face_steps-requires-clause-table
+face_steps-requires-clause-table c =
     let s = c.args.p.now in
     let w = present-family s.graph s.tree s.rotation c.belongs.ensures.block c.belongs.ensures.plane in
     let kind = c.kind.ensures ∙ ap (λ (z : List Node). (node_at z c.args.k).kind) c.tree-tree.ensures.value in
     let other = other-kind c.kind.result c.in-R.is in
-    (c.requires.others w.0 w.1 w.2 c.args.k c.requires.node (λ e. other.0 (kind ∙ e)) (λ e. other.1 (kind ∙ e))).0
+    let told = c.requires.others c.args.k c.requires.node (λ e. other.0 (kind ∙ e)) (λ e. other.1 (kind ∙ e)) in
+    subst (λ (z : List Node). IsTable z c.args.others.now) (sym c.tree-tree.ensures.value) told.0
+
+pub face_steps-requires-clause-family : goal.face_steps-requires-clause-family
+face_steps-requires-clause-family c =
+    let s = c.args.p.now in
+    let w = present-family s.graph s.tree s.rotation c.belongs.ensures.block c.belongs.ensures.plane in
+    let kind = c.kind.ensures ∙ ap (λ (z : List Node). (node_at z c.args.k).kind) c.tree-tree.ensures.value in
+    let other = other-kind c.kind.result c.in-R.is in
+    let told = c.requires.others c.args.k c.requires.node (λ e. other.0 (kind ∙ e)) (λ e. other.1 (kind ∙ e)) in
+    subst (λ (z : List Node). (family : List (List (List ℕ))) × AreSkeletonSystems z family × HasFollowers z family c.args.others.now) (sym c.tree-tree.ensures.value) (w.0, w.1, told.1 w.0 (record { systems = w.1; follows = w.2 }))
 
 pub number_faces-requires-in-R : goal.number_faces-requires-in-R
 number_faces-requires-in-R c =
     let s = c.args.p.now in
     let w = present-family s.graph s.tree s.rotation c.belongs.ensures.block c.belongs.ensures.plane in
     let kind = c.kind.ensures ∙ ap (λ (z : List Node). (node_at z c.args.k).kind) c.tree-tree.ensures.value in
-    let other = other-kind c.kind.result c.in-R.is in (
+    let other = other-kind c.kind.result c.in-R.is in
+    let told = c.requires.others c.args.k c.requires.node (λ e. other.0 (kind ∙ e)) (λ e. other.1 (kind ∙ e)) in
+    let steps = subst (λ (z : List Node). (family : List (List (List ℕ))) → AreSkeletonSystems z family → HasFollowers z family c.args.others.now → AreFaceSteps (skeleton_graph z c.args.k) (system_at family c.args.k) c.face_steps.new.steps.items) c.tree-tree.ensures.value c.in_ok-face_steps-in-R.ensures in (
       skeleton_graph s.tree c.args.k,
       system_at w.0 c.args.k,
       skeleton-graph s.graph s.tree c.belongs.ensures.block c.args.k c.requires.node,
       skeleton-limits s.graph s.tree c.belongs.ensures.block c.args.k c.requires.node (subst IsWithinLimits c.graph.ensures.value c.keeps_limits.ensures.limits),
       w.1.systems c.args.k c.requires.node,
-      subst (AreFaceSteps (skeleton_graph s.tree c.args.k) (system_at w.0 c.args.k)) (sym c.at.ensures)
-          (c.requires.others w.0 w.1 w.2 c.args.k c.requires.node (λ e. other.0 (kind ∙ e)) (λ e. other.1 (kind ∙ e))).1,
+      subst (AreFaceSteps (skeleton_graph s.tree c.args.k) (system_at w.0 c.args.k)) (sym c.deref-in-R.ensures.value) (steps w.0 w.1 (told.1 w.0 (record { systems = w.1; follows = w.2 }))),
     )
 
 pub returns-in-P-clause-numbers : goal.returns-in-P-clause-numbers
@@ -96,11 +108,14 @@ returns-in_ok-polygon_steps-in-S-clause-numbers c =
     IfOk-weaker c.number_faces.result _ _ (λ _ n family f h. n (skeleton_graph s.tree c.args.k) (system_at family c.args.k) (skeleton-graph s.graph s.tree c.belongs.ensures.block c.args.k c.requires.node) (f.systems c.args.k c.requires.node)
     (subst (AreFaceSteps (skeleton_graph s.tree c.args.k) (system_at family c.args.k)) (sym c.deref.ensures.value) (steps family f))) c.number_faces.ensures
 
-pub returns-in-R-clause-numbers : goal.returns-in-R-clause-numbers
-returns-in-R-clause-numbers c =
+pub returns-in_ok-face_steps-in-R-clause-numbers : goal.returns-in_ok-face_steps-in-R-clause-numbers
+returns-in_ok-face_steps-in-R-clause-numbers c =
     let s = c.args.p.now in
+    let w = present-family s.graph s.tree s.rotation c.belongs.ensures.block c.belongs.ensures.plane in
     let kind = c.kind.ensures ∙ ap (λ (z : List Node). (node_at z c.args.k).kind) c.tree-tree.ensures.value in
     let other = other-kind c.kind.result c.in-R.is in
+    let told = c.requires.others c.args.k c.requires.node (λ e. other.0 (kind ∙ e)) (λ e. other.1 (kind ∙ e)) in
+    let steps = subst (λ (z : List Node). (family : List (List (List ℕ))) → AreSkeletonSystems z family → HasFollowers z family c.args.others.now → AreFaceSteps (skeleton_graph z c.args.k) (system_at family c.args.k) c.face_steps.new.steps.items) c.tree-tree.ensures.value c.in_ok-face_steps-in-R.ensures in
     IfOk-weaker c.number_faces-in-R.result _ _ (λ _ n family f h. n (skeleton_graph s.tree c.args.k) (system_at family c.args.k) (skeleton-graph s.graph s.tree c.belongs.ensures.block c.args.k c.requires.node) (f.systems c.args.k c.requires.node)
-    (subst (AreFaceSteps (skeleton_graph s.tree c.args.k) (system_at family c.args.k)) (sym c.at.ensures)
-    ((c.requires.others family f h c.args.k c.requires.node (λ e. other.0 (kind ∙ e)) (λ e. other.1 (kind ∙ e))).1))) c.number_faces-in-R.ensures
+    (subst (AreFaceSteps (skeleton_graph s.tree c.args.k) (system_at family c.args.k)) (sym c.deref-in-R.ensures.value)
+    (steps family f (told.1 family (record { systems = f; follows = h }))))) c.number_faces-in-R.ensures

@@ -9,7 +9,7 @@ use Rattle.skeletons.proofs.NodeItems.{nth_item}
 use Rattle.skeleton_runs.proofs.SkeletonGraph.{graph-edges, item-edge, skeleton-graph}
 use Rattle.skel_decompose.proofs.Searched.{items-few}
 use Rattle.skel_decompose.proofs.Stepped.{over-first, over-second}
-use Rattle.skel_decompose.proofs.steps.steps_of.Goals as goal
+use Rattle.skel_decompose.proofs.steps.face_steps.Goals as goal
 
 pub overflow_cast-i-end : goal.overflow_cast-i-end
 overflow_cast-i-end c = omega (arith, ap length c.items-items.ensures, items-few c.requires.block.0 c.args.tree.now c.requires.block.1 c.args.k c.requires.node c.requires.block.2)
