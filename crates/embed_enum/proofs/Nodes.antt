@@ -1,11 +1,11 @@
 -- Digits of nodes by their kinds.
-use Rattle.std.proofs.Common.{◌≡◌, ◌≢◌, ℕ, suc, ◌+◌, ◌-◌, ◌≤◌, nat_lt, cond, true, List, [], ◌∷◌, length, drop, reverse, refl, sym, ap, ◌∙◌, subst, arith, inl, inr}
+use Rattle.std.proofs.Common.{◌≡◌, ◌≢◌, ℕ, suc, ◌+◌, ◌-◌, ◌<◌, ◌≤◌, nat_lt, cond, true, List, [], ◌∷◌, length, drop, reverse, slice_index_or, slice_set, refl, sym, ap, ◌∙◌, subst, arith, inl, inr}
 use Rattle.std.proofs.lemmas.Bool.{cases_lt, lt-ltb, le-ltb}
-use Rattle.std.proofs.lemmas.List.{reverse-reverse, length-map}
+use Rattle.std.proofs.lemmas.List.{reverse-reverse, length-map, get_or-set_same}
 use Rattle.permutations.specs.Cyclic.{first_or, last_or}
 use Rattle.permutations.specs.Members.{is_distinct}
 use Rattle.permutations.proofs.Members.{distinct-tail}
-use Rattle.pair_split.specs.Tutte.{node_at}
+use Rattle.pair_split.specs.Tutte.{Node, node_at}
 use Rattle.pair_split.specs.declared.components.Kind.{Kind}
 use Rattle.pair_split.specs.declared.components.Kind.TheVariants.{P, R}
 use Rattle.choice_lists.specs.Arrangements.{factorial, factorial_number}
@@ -14,13 +14,14 @@ use Rattle.choice_lists.proofs.NextArrangement.{Falls}
 use Rattle.skeletons.specs.Items.{item_key, node_keys}
 use Rattle.skeletons.specs.Choices.{choice}
 use Rattle.skeletons.specs.Lists.{cyclic_orders, choice_count}
-use Rattle.skeletons.specs.Moves.{IsNodeOfKind}
+use Rattle.skeletons.specs.Moves.{permute, IsNodeOfKind, PermuteLeads}
 use Rattle.skeleton_choices.proofs.Listed.{choice-normal, orders-factorial}
 use Rattle.skel_embed.specs.Block.{BlockState, IsBlockState}
 use Rattle.embed_enum.specs.Digits.{rigid_digit, digit_of}
-use Rattle.embed_enum.specs.Changes.{KeepsOthers, node_digit}
+use Rattle.embed_enum.specs.Changes.{IsMoved, KeepsOthers, node_digit}
 use Rattle.embed_enum.proofs.Ranks.{last-apart}
 use Rattle.embed_enum.proofs.States.{rigid-long}
+use Rattle.embed_enum.proofs.Single.{IsMovedOnly, keeps-moved}
 use Rattle.embed_enum.proofs.Bonds.{IsBondOf, bond-of, bond-long, bond-some, bond-last, bond-sorted}
 
 -- a choice and its mirror image have the two digits
@@ -78,3 +79,18 @@ pub bond-begins : (old new : BlockState) → IsBlockState new → (k : ℕ) → 
 bond-begins old new h k n o e =
     digit-as old new k P n.1 o ∙ bond-sorted (node_keys old.tree k) (choice old.tree new.rotation k)
     (subst (λ z. IsBondOf (node_keys z k) (choice z new.rotation k)) o.tree (bond-of new h k (subst (λ z. IsNodeOfKind z k P) (sym o.tree) n))) e
+
+-- so it is after the groups are put in the order of the items
+pub sorted-begins : (old new : BlockState) → IsBlockState old → IsBlockState new → (k : ℕ) → IsNodeOfKind old.tree k P → PermuteLeads old.graph old.tree k (node_keys old.tree k) old.rotation new.rotation → IsMovedOnly old new
+    → new.choices ≡ slice_set old.choices k (node_keys old.tree k) → IsMoved old new k 0
+sorted-begins old new h j k n f e c = (keeps, bond-begins old new j k n keeps is)
+  where
+    keeps : KeepsOthers old new k
+    keeps = keeps-moved old new h (permute k (node_keys old.tree k)) e (n, f)
+
+    tree : new.tree ≡ old.tree
+    tree = ap (λ (s : BlockState). s.tree) e
+
+    is : choice old.tree new.rotation k ≡ node_keys old.tree k
+    is = ap (λ (z : List Node). choice z new.rotation k) (sym tree) ∙ sym (j.choices.is k (subst (λ (z : List Node). k < length z) (sym tree) n.0)) ∙ ap (λ (z : List (List ℕ)). slice_index_or z k []) c
+        ∙ get_or-set_same old.choices k (node_keys old.tree k) [] (subst (λ z. k < z) (sym h.choices.each) n.0)

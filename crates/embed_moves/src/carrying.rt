@@ -5,7 +5,6 @@ ghost use Rattle.skeletons.specs.Moves.{moved_node};
 ghost use Rattle.skel_embed.specs.Values.{as_move};
 ghost use Rattle.embed_moves.specs.Made.{IsMade, Fits, LeadsBack};
 
-use crate::permuting::permute_to;
 use skel_embed::{Keys, Move, PlaneBlock};
 use std::alloc::{AllocError, Global};
 
@@ -16,7 +15,7 @@ pub fn carry_out(p: &mut PlaneBlock, m: &Move)
 {
     match m {
         Move::Flip(k) => p.turn(*k),
-        Move::Permute(k, keys) => permute_to(p, *k, keys.as_slice()),
+        Move::Permute(k, keys) => p.arrange(*k, keys.as_slice()),
     }
 }
 

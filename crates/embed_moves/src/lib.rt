@@ -4,9 +4,8 @@
 // Mac Lane 1937). Each leads from a plane rotation system to a plane one. A locked node is not moved. A call that
 // fails says why, and leaves the block as it was. Nothing but `back` takes memory.
 //
-// A permute of few groups is made of exchanges of two of them. That these lead where the one move leads follows from the choices: each
-// exchange keeps all choices but that of the bond, and a plane rotation system is determined by its choices. Many groups are
-// brought into their order in one pass.
+// Where a move leads is told by the choices: it keeps all but that of its node, and a plane rotation system is determined by its choices. So
+// the permute to the present choice of a bond leads back to it from whichever order its groups are brought into.
 #![tactic(auto)]
 
 mod carrying;

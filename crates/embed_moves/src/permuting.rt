@@ -9,11 +9,8 @@ ghost use Rattle.skel_embed.specs.Block.{lock_at};
 ghost use Rattle.embed_moves.specs.Made.{IsMade, IsPermuteRefusal};
 
 use pair_split::{Item, Kind};
-use skel_embed::{PlaneBlock, place_of};
+use skel_embed::PlaneBlock;
 use thiserror::Error;
-
-// With up to how many keys the groups of a bond are brought into their order one by one.
-const FEW: usize = 8;
 
 /// Why a node is not permuted.
 #[derive(Debug, Drop, Error)]
@@ -52,58 +49,13 @@ fn is_arrangement(items: &[Item], keys: &[u32]) -> bool
     true
 }
 
-// The key at place i of the cyclic order written from a place on.
-fn key_from(keys: &[u32], place: usize, i: usize) -> u32
-    requires place { place < length keys.now }
-    requires within { i < length keys.now }
-    ensures { result ≡ slice_index_or (drop place keys.now ++ take place keys.now) i 0 }
-{
-    let rest = keys.len() - place;
-    if i < rest {
-        keys[place + i]
-    } else {
-        keys[i - rest]
-    }
-}
-
-// Brings the groups of the bond k into the cyclic order of the keys one by one: in each place after the first the group that is there is
-// exchanged with the one wanted. A group that is in its place is not looked at.
-fn exchange_to(p: &mut PlaneBlock, k: u32, keys: &[u32])
-    requires node { IsNodeOfKind p.old.tree k P }
-    requires arrangement { IsPermutation (node_keys p.old.tree k) keys.now }
-    ensures { IsMade (permute k keys.now) p.old p.new }
-{
-    p.belongs();
-    let place = place_of(keys, p.keys(k)[0]);
-    for i in 1..keys.len() {
-        let here = p.keys(k)[i];
-        let wanted = key_from(keys, place, i);
-        if here != wanted {
-            p.exchange_groups(k, here, wanted);
-        }
-    }
-}
-
-// Brings the groups of the bond k into the cyclic order of the keys: few of them one by one, many in one pass.
-pub(crate) fn permute_to(p: &mut PlaneBlock, k: u32, keys: &[u32])
-    requires node { IsNodeOfKind p.old.tree k P }
-    requires arrangement { IsPermutation (node_keys p.old.tree k) keys.now }
-    ensures { IsMade (permute k keys.now) p.old p.new }
-{
-    if keys.len() <= FEW {
-        exchange_to(p, k, keys);
-    } else {
-        p.arrange(k, keys);
-    }
-}
-
 /// Permutes node `k` to the keys, which may begin anywhere: its groups come into their cyclic order at the lesser pole, and into
 /// the reverse at the other, each group as it was (Di Battista and Tamassia 1996).
 ///
 /// Fails with `WrongKind` if the node is not a bond, else with `BadOrder` if the keys are not an ordering of its own, else with
 /// `Locked` if it is locked; the block is then unchanged. Takes no memory: the keys are looked up one by one, and the groups are
-/// brought into their order, few of them by exchanges, and many in one pass. So it takes time in proportion to the square of the number of
-/// keys, and to the degrees of the poles times the time of `Tree::group`.
+/// brought into their order in one pass. So it takes time in proportion to the square of the number of keys, and to the degrees of
+/// the poles times the time of `Tree::group`.
 pub fn permute(p: &mut PlaneBlock, k: u32, keys: &[u32]) -> Result<(), PermuteFault>
     requires { k < length p.old.tree }
     ensures made { IfOk result (λ _. IsMade (permute k keys.now) p.old p.new) }
@@ -120,6 +72,6 @@ pub fn permute(p: &mut PlaneBlock, k: u32, keys: &[u32]) -> Result<(), PermuteFa
     if p.locked(k) {
         return Err(PermuteFault::Locked(k));
     }
-    permute_to(p, k, keys);
+    p.arrange(k, keys);
     Ok(())
 }

@@ -1,28 +1,58 @@
 -- Groups around a vertex brought into the cyclic order of keys: each run put after the one before it.
-use Rattle.std.proofs.Common.{◌≡◌, ℕ, ◌+◌, ◌<◌, ◌≤◌, inl, inr, Bool, true, false, List, [], ◌∷◌, ◌++◌, length, take, slice_index_or, refl, sym, ap, ◌∙◌, subst, arith, append_assoc, append-nil, IsPermutation}
-use Rattle.std.proofs.lemmas.Bool.{both_ways}
-use Rattle.std.proofs.lemmas.List.{length-append, length-map, length-reverse, take_all, take_more}
+use Rattle.std.proofs.Common.{◌≡◌, ℕ, ◌+◌, ◌<◌, inl, inr, Bool, true, false, List, [], ◌∷◌, ◌++◌, length, take, drop, slice_index_or, refl, sym, ap, ap₂, ◌∙◌, subst, arith, append_assoc, append-nil, IsPermutation}
+use Rattle.std.proofs.lemmas.Bool.{both_ways, true≢false}
+use Rattle.std.proofs.lemmas.List.{length-append, length-map, length-reverse, length-take-le, take-append-drop, take-map, drop-map, take_at, drop_at, take_all, take_more}
 use Rattle.std.proofs.lemmas.List.Sorted.{IsPermutation-trans, IsPermutation-map, IsPermutation-middle, IsPermutation-append_right, length_permutation}
 use Rattle.permutations.specs.Cyclic.{IsTurn}
 use Rattle.permutations.specs.Members.{is_member, is_distinct}
 use Rattle.permutations.specs.Runs.{joined, group_keys, InRuns}
 use Rattle.permutations.proofs.Arrangements.{permutation-distinct, permutation-member, member-at}
-use Rattle.permutations.proofs.Members.{member-append_cases}
+use Rattle.permutations.proofs.Members.{member-append_cases, member-cases}
 use Rattle.permutations.proofs.Runs.{joined-append, runs-turn}
-use Rattle.permutations.proofs.Turned.{IsTurn-permutation}
+use Rattle.permutations.proofs.Turned.{IsTurn-length, IsTurn-permutation}
 use Rattle.rotations.specs.Runs.{IsRun, IsOutside, IsRunMoved}
 use Rattle.skeletons.specs.Moves.{AreRegrouped}
 use Rattle.skeletons.proofs.Rearranged.{group-with}
-use Rattle.skel_embed.specs.Arranged.{directed, HasGroupsOf}
+use Rattle.skel_embed.specs.Arranged.{directed, from_place, HasGroupsOf}
 use Rattle.skel_embed.specs.Steps.{EndsRun, BeginsRun, StandInTwoRuns}
 use Rattle.skel_embed.proofs.ExchangeSteps.{keys-append}
 use Rattle.skel_embed.proofs.RunSteps.{Ends, end-behind, run-is, some-first, outside-groups, moved-groups}
 use Rattle.skel_embed.proofs.TurnSteps.{next-new}
 
+-- a cyclic order written from a place on
+pub place-turn : (place : ℕ) (l : List ℕ) → IsTurn l (from_place place l)
+place-turn place l = record { front = take place l; back = drop place l; before = sym (take-append-drop place l); after = refl }
+
 -- either way the list has the same length
-pub directed-length : (backwards : Bool) (l : List ℕ) → length (directed backwards l) ≡ length l
-directed-length true l = length-reverse l
-directed-length false l = refl
+pub directed-length : (backwards : Bool) (end : ℕ) (l : List ℕ) → length (directed backwards end l) ≡ length l
+directed-length true end l = length-reverse (from_place end l) ∙ IsTurn-length l (from_place end l) (place-turn end l)
+directed-length false end l = IsTurn-length l (from_place (end + 1) l) (place-turn (end + 1) l)
+
+-- groups that are in the cyclic order of keys are in it from whichever key it is written on
+pub keys-turned : (key : ℕ → ℕ) (l keys new m : List ℕ) → IsTurn keys new → AreRegrouped key l keys m → AreRegrouped key l new m
+keys-turned key l keys new m t a = record {
+  before = a.before;
+  after = drop (length t.front) a.after ++ take (length t.front) a.after;
+  runs_before = a.runs_before;
+  runs_after = runs-turn key m a.after (drop (length t.front) a.after ++ take (length t.front) a.after) a.runs_after turn;
+  same_groups = IsPermutation-trans a.before a.after (drop (length t.front) a.after ++ take (length t.front) a.after) a.same_groups (IsTurn-permutation a.after (drop (length t.front) a.after ++ take (length t.front) a.after) turn);
+  order = order;
+}
+  where
+    turn : IsTurn a.after (drop (length t.front) a.after ++ take (length t.front) a.after)
+    turn = record { front = take (length t.front) a.after; back = drop (length t.front) a.after; before = sym (take-append-drop (length t.front) a.after); after = refl }
+
+    is : group_keys a.after ≡ t.front ++ t.back
+    is = a.order ∙ t.before
+
+    later : group_keys (drop (length t.front) a.after) ≡ t.back
+    later = sym (drop-map (λ (h : ℕ × List ℕ). h.0) (length t.front) a.after) ∙ ap (drop (length t.front)) is ∙ drop_at t.front t.back (length t.front) refl
+
+    earlier : group_keys (take (length t.front) a.after) ≡ t.front
+    earlier = sym (take-map (λ (h : ℕ × List ℕ). h.0) (length t.front) a.after) ∙ ap (take (length t.front)) is ∙ take_at t.front t.back (length t.front) refl
+
+    order : group_keys (drop (length t.front) a.after ++ take (length t.front) a.after) ≡ new
+    order = keys-append (drop (length t.front) a.after) (take (length t.front) a.after) ∙ ap₂ (λ (x y : List ℕ). x ++ y) later earlier ∙ sym t.after
 
 -- a list of groups cut at the one with this key
 pub record IsCutAt (gs : List (ℕ × List ℕ)) (a : ℕ) : Type 0 where
@@ -108,20 +138,6 @@ module _ (key : ℕ → ℕ) (l keys m : List ℕ) (i last : ℕ) (w : IsArrangi
   all-long : length (w.placed ++ w.rest) ≡ length keys
   all-long = omega (arith, length_permutation w.groups (w.placed ++ w.rest) w.same_groups, length_permutation (group_keys w.groups) keys w.all_keys, length-map w.groups (λ (h : ℕ × List ℕ). h.0))
 
-  -- with all keys passed the groups stand in their order
-  pub arranging-done : length keys ≤ i → AreRegrouped key l keys m
-  arranging-done h = record { before = w.groups; after = w.placed ++ w.rest; runs_before = w.before; runs_after = w.now; same_groups = w.same_groups; order = order }
-    where
-      placed-long : length w.placed ≡ length keys
-      placed-long = sym (length-map w.placed (λ (h : ℕ × List ℕ). h.0)) ∙ ap length (w.written ∙ take_all i keys h)
-
-      none : (gs : List (ℕ × List ℕ)) → w.rest ≡ gs → group_keys gs ≡ []
-      none [] e = refl
-      none (g ∷ gs) e = absurd (omega (arith, all-long, placed-long, length-append w.placed w.rest, ap (λ (z : List (ℕ × List ℕ)). length z) e))
-
-      order : group_keys (w.placed ++ w.rest) ≡ keys
-      order = keys-append w.placed w.rest ∙ ap (λ (z : List ℕ). group_keys w.placed ++ z) (none w.rest refl) ∙ append-nil (group_keys w.placed) ∙ w.written ∙ take_all i keys h
-
   module _ (two : 1 < length keys) (d : is_distinct m ≡ true) (h : i < length keys) where
     now-two : 1 < length (w.placed ++ w.rest)
     now-two = omega (arith, two, all-long)
@@ -142,6 +158,27 @@ module _ (key : ℕ → ℕ) (l keys m : List ℕ) (i last : ℕ) (w : IsArrangi
         among : is_member wanted (group_keys w.placed ++ group_keys w.rest) ≡ true
         among = sym (ap (is_member wanted) (keys-append w.placed w.rest)) ∙ permutation-member (group_keys w.groups) (group_keys (w.placed ++ w.rest)) wanted (IsPermutation-map (λ (h : ℕ × List ℕ). h.0) w.groups (w.placed ++ w.rest) w.same_groups)
             ∙ sym (permutation-member (group_keys w.groups) keys wanted w.all_keys) ∙ member-at keys i 0 h
+
+    -- with one key left the groups are in their order
+    pub arranging-last : i + 1 ≡ length keys → AreRegrouped key l keys m
+    arranging-last e = record { before = w.groups; after = w.placed ++ w.rest; runs_before = w.before; runs_after = w.now; same_groups = w.same_groups; order = order }
+      where
+        placed-long : length w.placed ≡ i
+        placed-long = sym (length-map w.placed (λ (h : ℕ × List ℕ). h.0)) ∙ ap length w.written ∙ length-take-le i keys (omega (arith, h))
+
+        left : length w.rest ≡ 1
+        left = omega (arith, all-long, placed-long, length-append w.placed w.rest, e)
+
+        one : (gs : List (ℕ × List ℕ)) → length gs ≡ 1 → is_member wanted (group_keys gs) ≡ true → group_keys gs ≡ wanted ∷ []
+        one [] n m = absurd (omega (arith, n))
+        one (g ∷ []) n m = elim (member-cases wanted g.0 [] m) [
+          | inl q ↦ ap (λ z. z ∷ []) q
+          | inr q ↦ absurd (true≢false (sym q))
+        ]
+        one (g ∷ k ∷ gs) n m = absurd (omega (arith, n))
+
+        order : group_keys (w.placed ++ w.rest) ≡ keys
+        order = keys-append w.placed w.rest ∙ ap₂ (λ (x y : List ℕ). x ++ y) w.written (one w.rest left next-in) ∙ sym (take_more keys i 0 h) ∙ take_all (i + 1) keys (omega (arith, e))
 
     next-cut : IsCutAt w.rest wanted
     next-cut = cut-at w.rest wanted next-in

@@ -14,6 +14,9 @@ use Rattle.permutations.proofs.Places.{first-at}
 use Rattle.permutations.proofs.Relation.{same-tests}
 use Rattle.permutations.proofs.Turned.{turned-cut, IsTurn-length}
 use Rattle.choice_lists.specs.Choices.{mirror_choice}
+use Rattle.pair_split.specs.declared.components.Item.{Item}
+use Rattle.skeletons.specs.Items.{item_key}
+use Rattle.skeletons.proofs.NodeItems.{no_item}
 use Rattle.skeleton_choices.proofs.Listed.{mirror-same}
 use Rattle.skel_embed.specs.Exchanges.{other_of, exchanged, turned_choice, StandsAt}
 use Rattle.skel_embed.proofs.ExchangeSteps.{other-first, other-second, other-none}
@@ -28,6 +31,19 @@ exchange-more a b old now i key h e k =
     go [] i h = absurd (omega (arith, h))
     go (x ∷ l) zero h = refl
     go (x ∷ l) (suc i) h = ap (λ (z : List ℕ). other_of a b x ∷ z) (go l i (omega (arith, h)))
+
+-- one key more is written
+pub write-more : (items : List Item) (old now : List ℕ) (i : ℕ) → i < length items → length old ≡ length items → now ≡ map item_key (take i items) ++ drop i old
+    → slice_set now i (slice_index_or items i no_item).key ≡ map item_key (take (i + 1) items) ++ drop (i + 1) old
+write-more items old now i h n e =
+    let s : i + 1 ≡ suc i = omega arith in
+    ap (λ (z : List ℕ). slice_set z i (slice_index_or items i no_item).key) e ∙ go items old i h n ∙ ap (λ z. map item_key (take z items) ++ drop z old) (sym s)
+  where
+    go : (items : List Item) (old : List ℕ) (i : ℕ) → i < length items → length old ≡ length items → slice_set (map item_key (take i items) ++ drop i old) i (slice_index_or items i no_item).key ≡ map item_key (take (suc i) items) ++ drop (suc i) old
+    go [] old i h n = absurd (omega (arith, h))
+    go (x ∷ items) [] i h n = absurd (omega (arith, n))
+    go (x ∷ items) (y ∷ old) zero h n = refl
+    go (x ∷ items) (y ∷ old) (suc i) h n = ap (λ (z : List ℕ). x.key ∷ z) (go items old i (omega (arith, h)) (omega (arith, n)))
 
 -- the reverse order, from the least on
 pub turned-round : (old : List ℕ) → is_distinct old ≡ true → from_least old ≡ old → take 1 old ++ reverse (drop 1 old) ≡ from_least (reverse old)

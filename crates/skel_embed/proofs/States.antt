@@ -1,20 +1,24 @@
 -- A block in the plane after a move: its kept choices are right again.
-use Rattle.std.proofs.Common.{◌≡◌, ℕ, ◌<◌, inl, inr, true, List, [], length, map, reverse, slice_index_or, slice_set, sym, ap, ◌∙◌, subst, arith, IsPermutation}
+use Rattle.std.proofs.Common.{◌≡◌, ℕ, ◌<◌, inl, inr, true, List, [], ◌∷◌, refl, length, map, reverse, slice_index_or, slice_set, sym, ap, ◌∙◌, subst, arith, IsPermutation}
 use Rattle.std.proofs.lemmas.Bool.{cases_eq}
 use Rattle.std.proofs.lemmas.List.{length-set, length-map, get_or-map, get_or-set_same, get_or-set_other}
-use Rattle.std.proofs.lemmas.List.Sorted.{IsPermutation-trans, IsPermutation-sym}
+use Rattle.std.proofs.lemmas.List.Sorted.{IsPermutation-refl, IsPermutation-trans, IsPermutation-sym, length_permutation}
 use Rattle.permutations.specs.Cyclic.{from_least}
 use Rattle.permutations.specs.Members.{is_member, is_distinct}
 use Rattle.permutations.specs.Runs.{group_keys}
 use Rattle.permutations.proofs.Arrangements.{permutation-member}
-use Rattle.permutations.proofs.NormalForm.{from_least-turn}
+use Rattle.permutations.proofs.NormalForm.{from_least-first, from_least-turn}
+use Rattle.permutations.proofs.Members.{member-tail}
+use Rattle.multigraph.specs.Part.{Rises}
+use Rattle.pair_split.specs.Tutte.{node_at}
+use Rattle.skel_embed.proofs.Lexicographic.{rises-first}
 use Rattle.permutations.proofs.Turned.{IsTurn-length}
 use Rattle.rotations.specs.Rotation.{order_at}
 use Rattle.rotations.specs.Runs.{mirror_image}
 use Rattle.faces.proofs.MapMirror.{mirror-system, mirror-image-plane}
 use Rattle.pair_split.specs.Tutte.{group}
 use Rattle.pair_split.specs.declared.components.Kind.TheVariants.{P, R}
-use Rattle.skeletons.specs.Items.{node_keys, has_vertex, least_vertex}
+use Rattle.skeletons.specs.Items.{item_key, node_keys, has_vertex, least_vertex}
 use Rattle.faces.specs.Euler.{IsPlaneSystem}
 use Rattle.skeletons.specs.Choices.{choice}
 use Rattle.skeletons.specs.Moves.{Move, flip, permute, moved_node, IsNodeOfKind, MoveLeads, FlipLeads, PermuteLeads}
@@ -97,6 +101,21 @@ state-permuted s is k a b q node f = state-moved s is (permute k (exchanged a b 
 pub state-arranged : (s : BlockState) → IsBlockState s → (k : ℕ) (keys : List ℕ) (q : List (List ℕ)) → IsNodeOfKind s.tree k P → PermuteLeads s.graph s.tree k keys s.rotation q → IsBlockState (with_move s q k (from_least keys))
 state-arranged s is k keys q node f = state-moved s is (permute k keys) q (from_least keys) node.0 (node, f)
     (permute-sets s.graph s.tree k keys s.rotation q is.block is.plane.system (plane-contiguous s.graph s.tree s.rotation is.block is.plane) node f)
+
+-- increasing numbers are written from the least on
+rises-written : (l : List ℕ) → Rises l → from_least l ≡ l
+rises-written [] r = refl
+rises-written (x ∷ l) r = from_least-first x l (λ z m. rises-first x l r z (member-tail z x l m))
+
+-- after a permute to increasing keys
+pub state-sorted : (s : BlockState) → IsBlockState s → (k : ℕ) (q : List (List ℕ)) → IsNodeOfKind s.tree k P → PermuteLeads s.graph s.tree k (node_keys s.tree k) s.rotation q → IsBlockState (with_move s q k (node_keys s.tree k))
+state-sorted s is k q node f = subst (λ (z : List ℕ). IsBlockState (with_move s q k z)) (rises-written (node_keys s.tree k) (is.block.tree.in_order.keys_rise k node.0)) (state-arranged s is k (node_keys s.tree k) q node f)
+
+-- the choice of a bond has as many keys as the node has items
+pub kept-number : (s : BlockState) → IsBlockState s → (k : ℕ) → IsNodeOfKind s.tree k P → length (slice_index_or s.choices k []) ≡ length (node_at s.tree k).items
+kept-number s is k node =
+    let p = kept-arranged s is k (node_keys s.tree k) node (IsPermutation-refl (node_keys s.tree k)) in
+    omega (arith, length_permutation (slice_index_or s.choices k []) (node_keys s.tree k) p, length-map (node_at s.tree k).items item_key)
 
 -- the kept choices are written from their least keys on
 pub kept-all : (s : BlockState) → IsBlockState s → AreWritten s.choices

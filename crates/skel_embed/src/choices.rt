@@ -5,10 +5,12 @@ ghost use Rattle.std.specs.Prelude.{◌≡◌, ◌+◌, ◌<◌, ◌≤◌, [], 
 ghost use Rattle.std.specs.List.{concat};
 ghost use Rattle.permutations.specs.Cyclic.{from_least};
 ghost use Rattle.permutations.specs.Members.{is_member, is_distinct};
+ghost use Rattle.skeletons.specs.Items.{item_key};
 ghost use Rattle.skel_embed.specs.Exchanges.{exchanged, turned_choice, AreWritten};
 ghost use Rattle.skel_embed.specs.Flat.{start_at, lists_in, AreFlat};
 
-use crate::kept::{arrange, exchange, turn_round};
+use crate::kept::{arrange, exchange, turn_round, write_keys};
+use pair_split::Item;
 use std::marker::Model;
 
 // The choices of the nodes, as they are read.
@@ -126,6 +128,20 @@ pub(crate) fn arrange_choice(keys: &mut Vec<u32>, ends: &[usize], k: usize, orde
 {
     let (start, end) = Choices::of(keys.as_slice(), ends).bounds(k);
     arrange(&mut keys[start..end], order);
+}
+
+// Writes the keys of the items as the choice of node k, in their order.
+pub(crate) fn write_choice(keys: &mut Vec<u32>, ends: &[usize], k: usize, items: &[Item])
+    requires flat { AreFlat (lists_in keys.old.items ends.now) keys.old.items ends.now }
+    requires node { k < length (lists_in keys.old.items ends.now) }
+    requires number { length (slice_index_or (lists_in keys.old.items ends.now) k [])
+        ≡ length items.now }
+    ensures flat { AreFlat (lists_in keys.new.items ends.now) keys.new.items ends.now }
+    ensures written { lists_in keys.new.items ends.now
+        ≡ slice_set (lists_in keys.old.items ends.now) k (map item_key items.now) }
+{
+    let (start, end) = Choices::of(keys.as_slice(), ends).bounds(k);
+    write_keys(&mut keys[start..end], items);
 }
 
 // Reverses the cyclic order of each node.

@@ -1,10 +1,13 @@
 // The keys of a choice, from the least on, changed in place.
 
-ghost use Rattle.std.specs.Prelude.{◌≡◌, ◌≤◌, ◌++◌, ◌==◌, true, length, reverse, take, drop, IsPermutation};
+ghost use Rattle.std.specs.Prelude.{◌≡◌, ◌≤◌, ◌++◌, ◌==◌, true, length, map, reverse, take, drop, IsPermutation};
 ghost use Rattle.std.specs.List.{position};
 ghost use Rattle.permutations.specs.Cyclic.{from_least, turned};
 ghost use Rattle.permutations.specs.Members.{is_member, is_distinct};
+ghost use Rattle.skeletons.specs.Items.{item_key};
 ghost use Rattle.skel_embed.specs.Exchanges.{other_of, exchanged, turned_choice, StandsAt};
+
+use pair_split::Item;
 
 // Reverses the cyclic order.
 pub(crate) fn turn_round(keys: &mut [u32])
@@ -43,6 +46,16 @@ pub(crate) fn arrange(keys: &mut [u32], order: &[u32])
     let least = keys[0];
     keys.copy_from_slice(order);
     turn_to(keys, least);
+}
+
+// Writes the keys of the items in their order.
+pub(crate) fn write_keys(keys: &mut [u32], items: &[Item])
+    requires { length keys.old ≡ length items.now }
+    ensures { keys.new ≡ map item_key items.now }
+{
+    for i in 0..items.len() {
+        keys[i] = items[i].key;
+    }
 }
 
 // Reverses the keys from a place on.
@@ -96,7 +109,7 @@ pub fn place_of(keys: &[u32], key: u32) -> usize
 }
 
 // The first place of a key, if it is there.
-fn position(keys: &[u32], key: u32) -> Option<usize>
+pub(crate) fn position(keys: &[u32], key: u32) -> Option<usize>
     ensures { result ≡ position (λ k. k == key) keys.now }
 {
     keys.iter().position(|k| *k == key)

@@ -11,8 +11,9 @@
 // these belong together is its invariant. Calls fail only if memory runs out, except that `take` may reject lists.
 //
 // A triconnected node is flipped, and two groups of a bond are exchanged, or all brought into another order, by moving the runs in
-// which the groups lie around the vertices of the node: a run is found by walking along it, and moved without looking at it.
-// So no memory is taken, and the inside of a group is never touched. `take` accepts lists where V - E + F is 2 (Euler 1758,
+// which the groups lie around the vertices of the node: a run is found by walking along it, and moved without looking at it. One group,
+// that beyond which the tree has most, stays where it is and is not walked along, where it can be told (sizes). So no memory is taken, and
+// the inside of a group is never touched. `take` accepts lists where V - E + F is 2 (Euler 1758,
 // Heffter 1891).
 //
 // The lemmas (module of proofs/ in front):
@@ -21,7 +22,7 @@
 //   RunSteps       ends-last, begins-first, put-groups: where runs end and begin, and what becomes of one that is moved
 //   TurnSteps      turning-on, turned-more: groups brought into the reverse order, at one vertex and at all of a node
 //   ExchangeSteps  cut-groups, put-both: two groups exchanged
-//   ArrangeSteps   arranging-more, arranging-done: each run after the one before it
+//   ArrangeSteps   arranging-more, arranging-last: each run after the one before it; keys-turned: written from another key on
 //   BondMoves      least-groups, exchange-leads, both-arranged: the groups at both poles in the order of the choice, or of keys
 //   KeptLists      turned-round, exchanged-least: choices changed in place
 //   Flat           flat-view, piece-of, lent-put: choices kept as one list
@@ -39,6 +40,7 @@ mod kept;
 mod members;
 mod planes;
 mod runs;
+mod sizes;
 mod state;
 mod systems;
 mod taking;

@@ -14,9 +14,6 @@ use pair_split::{Item, What};
 use rotations::Rotation;
 use spqr_tree::Tree;
 
-// How many items of a node are looked at for an edge at a pole.
-const FEW: usize = 8;
-
 // The end of a run around a vertex: its last edge, and the edge after it with the key of its group.
 #[derive(Clone, Copy)]
 pub(crate) struct RunEnd {
@@ -65,7 +62,27 @@ fn is_first(g: &Graph, t: &Tree, r: &Rotation, k: u32, v: u32, e: u32, key: u32)
     t.group(k, e) == key && t.group(k, r.pred(v, e)) != key
 }
 
-// The edge e, if it is at v and the first of the run whose edges have this key.
+// The first edge of the run around v that e is in, whose edges have this key: it is looked for from edge to edge, against the cyclic order.
+fn first_from(g: &Graph, t: &Tree, r: &Rotation, k: u32, v: u32, e: u32, key: u32) -> u32
+    requires block { IsBlockTree g.now t.now }
+    requires node { k < length t.now }
+    requires system { IsRotationSystem g.now r.now }
+    requires vertex { v < g.now.vertex_count }
+    requires around { is_member e (order_at r.now v) ≡ true }
+    ensures { is_member result (order_at r.now v) ≡ true }
+{
+    let mut at = e;
+    for _step in 0..g.degree(v) {
+        let before = r.pred(v, at);
+        if t.group(k, before) != key {
+            return at;
+        }
+        at = before;
+    }
+    at
+}
+
+// The first edge of the run around v whose edges have this key, if e is in it.
 fn first_at(g: &Graph, t: &Tree, r: &Rotation, k: u32, v: u32, e: u32, key: u32) -> Option<u32>
     requires block { IsBlockTree g.now t.now }
     requires node { k < length t.now }
@@ -74,9 +91,14 @@ fn first_at(g: &Graph, t: &Tree, r: &Rotation, k: u32, v: u32, e: u32, key: u32)
     ensures { IfSome result (BeginsRun (group t.now k) (order_at r.now v) key) }
 {
     let edges = g.incident(v);
-    match edges.binary_search(&e) {
-        Ok(place) if is_first(g, t, r, k, v, edges[place], key) => Some(edges[place]),
-        _ => None,
+    let Ok(place) = edges.binary_search(&e) else {
+        return None;
+    };
+    let first = first_from(g, t, r, k, v, edges[place], key);
+    if is_first(g, t, r, k, v, first, key) {
+        Some(first)
+    } else {
+        None
     }
 }
 
@@ -95,19 +117,26 @@ fn node_beyond(t: &Tree, k: u32, key: u32) -> Option<u32>
     }
 }
 
-// The items of the node beyond the item of node k with this key, if they are few.
-fn few_beyond(t: &Tree, k: u32, key: u32) -> &[Item]
+// The items of the node beyond the item of node k with this key, if they are no more than this.
+fn few_beyond(t: &Tree, k: u32, key: u32, most: u32) -> &[Item]
     requires { k < length t.now }
 {
     match node_beyond(t, k, key) {
-        Some(j) if t.items(j).len() <= FEW => t.items(j),
+        Some(j) if t.items(j).len() <= most as usize => t.items(j),
         _ => &[],
     }
 }
 
-// The first edge of the run around v whose edges have this key, if it is the least edge of its group, or is among few items of the node
-// beyond.
-fn first_nearby(g: &Graph, t: &Tree, r: &Rotation, k: u32, v: u32, key: u32) -> Option<u32>
+// The first edge of the run around v whose edges have this key, if the least edge of its group is at v, or that of an item at v of the node
+// beyond, which has no more items than v has edges.
+pub(crate) fn first_nearby(
+    g: &Graph,
+    t: &Tree,
+    r: &Rotation,
+    k: u32,
+    v: u32,
+    key: u32,
+) -> Option<u32>
     requires block { IsBlockTree g.now t.now }
     requires node { k < length t.now }
     requires system { IsRotationSystem g.now r.now }
@@ -117,9 +146,11 @@ fn first_nearby(g: &Graph, t: &Tree, r: &Rotation, k: u32, v: u32, key: u32) -> 
     if let Some(first) = first_at(g, t, r, k, v, key, key) {
         return Some(first);
     }
-    for item in few_beyond(t, k, key) {
-        if let Some(first) = first_at(g, t, r, k, v, item.key, key) {
-            return Some(first);
+    for item in few_beyond(t, k, key, g.degree(v)) {
+        if item.a == v || item.b == v {
+            if let Some(first) = first_at(g, t, r, k, v, item.key, key) {
+                return Some(first);
+            }
         }
     }
     None

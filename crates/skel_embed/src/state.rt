@@ -17,7 +17,9 @@ ghost use Rattle.skel_embed.specs.Flat.{lists_in, AreFlat};
 ghost use Rattle.skel_embed.specs.Taken.{IsGiven, IsTakeRefusal};
 
 use crate::arranging::arrange_node;
-use crate::choices::{Choices, arrange_choice, exchange_in_choice, turn_all, turn_choice};
+use crate::choices::{
+    Choices, arrange_choice, exchange_in_choice, turn_all, turn_choice, write_choice,
+};
 use crate::choosing::{choices_of, first_other};
 use crate::exchanging::exchange_node;
 use crate::taking::{TakeFault, given};
@@ -219,8 +221,8 @@ impl PlaneBlock {
 
     /// Brings the groups of the bond `k` into the cyclic order of the keys at the lesser pole, and into the reverse at the other,
     /// each group as it was. So its choice has these keys, written from the least on. All else stays. Takes no memory, and time
-    /// in proportion to the degrees of the poles, times that of `Tree::group`, where the first edge of each group is found
-    /// without a look at all edges of a pole.
+    /// in proportion to the degrees of the poles, times that of `Tree::group`, where an edge of each group is found without a
+    /// look at all edges of a pole. One group is not looked at: that beyond which the tree has most.
     pub fn arrange(&mut self, k: u32, keys: &[u32])
         requires node { IsNodeOfKind self.old.tree k P }
         requires arrangement { IsPermutation (node_keys self.old.tree k) keys.now }
@@ -235,6 +237,24 @@ impl PlaneBlock {
         let frame = self.frame.as_ref();
         arrange_node(&frame.graph, &frame.tree, &mut self.rotation, k, keys);
         arrange_choice(&mut self.keys, frame.ends.as_slice(), k as usize, keys);
+    }
+
+    /// Brings the groups of the bond `k` into the increasing order of their keys, as `arrange` does. Takes no memory.
+    pub fn sort(&mut self, k: u32)
+        requires node { IsNodeOfKind self.old.tree k P }
+        ensures permute { PermuteLeads self.old.graph self.old.tree k (node_keys self.old.tree k)
+            self.old.rotation self.new.rotation }
+        ensures choice { self.new.choices ≡ slice_set self.old.choices k (node_keys self.old.tree k) }
+        ensures rest { self.new ≡ record self.old {
+          rotation = self.new.rotation;
+          choices = self.new.choices;
+        } }
+    {
+        let frame = self.frame.as_ref();
+        let (graph, tree, ends) = (&frame.graph, &frame.tree, frame.ends.as_slice());
+        write_choice(&mut self.keys, ends, k as usize, tree.items(k));
+        let keys = Choices::of(self.keys.as_slice(), ends).at(k as usize);
+        arrange_node(graph, tree, &mut self.rotation, k, keys);
     }
 
     /// Reverses every rotation: the mirror image of the block, in which each choice is reversed. All else stays. Takes no

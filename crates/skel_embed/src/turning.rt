@@ -9,11 +9,13 @@ ghost use Rattle.skeletons.specs.Moves.{AreReversed, FlipLeads};
 ghost use Rattle.skel_embed.specs.Steps.{StandInTwoRuns};
 
 use crate::runs::run_end;
+use crate::sizes::last_of_most;
 use multigraph::Graph;
 use rotations::Rotation;
 use spqr_tree::Tree;
 
-// Reverses the cyclic order of the groups of node k around v: each run after the second is moved to the place after the first.
+// Reverses the cyclic order of the groups of node k around v: each run after the second is moved to the place after the first. The first is
+// that of a group of many edges, from its last edge on: it is not walked along.
 fn turn_round(g: &Graph, t: &Tree, r: &mut Rotation, k: u32, v: u32)
     requires block { IsBlockTree g.now t.now }
     requires node { k < length t.now }
@@ -24,7 +26,7 @@ fn turn_round(g: &Graph, t: &Tree, r: &mut Rotation, k: u32, v: u32)
     ensures turned { AreReversed (group t.now k) (order_at r.old v) (order_at r.new v) }
     ensures elsewhere { IsKeptElsewhere r.old r.new v }
 {
-    let first = g.incident(v)[0];
+    let first = last_of_most(g, t, r, k, v);
     let key = t.group(k, first);
     let front = run_end(g, t, r, k, v, first, key);
     let mut ahead = run_end(g, t, r, k, v, front.next, front.next_key);

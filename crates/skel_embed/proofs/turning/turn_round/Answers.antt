@@ -1,4 +1,4 @@
-use Rattle.std.proofs.Common.{◌≡◌, ◌≢◌, true, length, slice_index_or, refl, sym, ap, ◌∙◌, arith, subst}
+use Rattle.std.proofs.Common.{◌≡◌, ◌≢◌, true, refl, sym, ap, ◌∙◌, arith, subst}
 use Rattle.permutations.specs.Cyclic.{successor}
 use Rattle.permutations.specs.Members.{is_member}
 use Rattle.permutations.proofs.Successor.{successor-member}
@@ -7,28 +7,26 @@ use Rattle.rotations.specs.Runs.{IsOutside, IsRunMoved}
 use Rattle.faces.proofs.DartLemmas.{order-distinct}
 use Rattle.pair_split.specs.Tutte.{group}
 use Rattle.skel_embed.specs.Steps.{EndsRun}
-use Rattle.skel_embed.proofs.RunSteps.{edge-below, order-length, incident-in, some-last, two-filled, last-key, run-last_in}
+use Rattle.skel_embed.proofs.RunSteps.{edge-below, order-length, some-last, two-filled, last-key, run-last_in}
 use Rattle.skel_embed.proofs.TurnSteps.{turning-start, turning-short, turning-two, back-in, turning-done, turning-outside, turning-on, turning-next, moved-system, elsewhere-twice}
 use Rattle.skel_embed.proofs.turning.turn_round.Goals as goal
 
-pub bounds-incident-0 : goal.bounds-incident-0
-bounds-incident-0 c = omega (arith, ap length c.incident.ensures.value, order-length c.args.g.now c.args.r.now c.args.v c.requires.system c.requires.vertex, two-filled (group c.args.t.now c.args.k) (order_at c.args.r.now c.args.v) c.requires.runs)
+pub last_of_most-first-requires-clause-some : goal.last_of_most-first-requires-clause-some
+last_of_most-first-requires-clause-some c = two-filled (group c.args.t.now c.args.k) (order_at c.args.r.now c.args.v) c.requires.runs
 
 pub group-key-requires-clause-tree : goal.group-key-requires-clause-tree
-group-key-requires-clause-tree c = edge-below c.args.g.now c.args.t.now c.args.r.now c.args.v (slice_index_or c.incident.result.now 0 0) c.requires.block c.requires.system c.requires.vertex
-    (incident-in c.args.g.now c.args.r.now c.args.v 0 c.incident.result.now c.requires.system c.requires.vertex c.incident.ensures.value
-    (omega (arith, ap length c.incident.ensures.value, order-length c.args.g.now c.args.r.now c.args.v c.requires.system c.requires.vertex, two-filled (group c.args.t.now c.args.k) (order_at c.args.r.now c.args.v) c.requires.runs)))
+group-key-requires-clause-tree c = edge-below c.args.g.now c.args.t.now c.args.r.now c.args.v c.last_of_most-first.result c.requires.block c.requires.system c.requires.vertex
+    c.last_of_most-first.ensures
 
 pub run_end-front-requires-clause-ends : goal.run_end-front-requires-clause-ends
-run_end-front-requires-clause-ends c = some-last (group c.args.t.now c.args.k) (order_at c.args.r.now c.args.v) (slice_index_or c.incident.result.now 0 0) c.requires.runs
-    (incident-in c.args.g.now c.args.r.now c.args.v 0 c.incident.result.now c.requires.system c.requires.vertex c.incident.ensures.value
-    (omega (arith, ap length c.incident.ensures.value, order-length c.args.g.now c.args.r.now c.args.v c.requires.system c.requires.vertex, two-filled (group c.args.t.now c.args.k) (order_at c.args.r.now c.args.v) c.requires.runs)))
+run_end-front-requires-clause-ends c = some-last (group c.args.t.now c.args.k) (order_at c.args.r.now c.args.v) c.last_of_most-first.result c.requires.runs
+    c.last_of_most-first.ensures
 
 pub run_end-ahead-requires-clause-ends : goal.run_end-ahead-requires-clause-ends
 run_end-ahead-requires-clause-ends c =
     let l = order_at c.args.r.now c.args.v in
     some-last (group c.args.t.now c.args.k) l c.run_end-front.result.next c.requires.runs (subst (λ z. is_member z l ≡ true) (sym c.run_end-front.ensures.next)
-    (successor-member l c.run_end-front.result.last (run-last_in (group c.args.t.now c.args.k) l (slice_index_or c.incident.result.now 0 0) c.run_end-front.result.last c.run_end-front.ensures.ends)))
+    (successor-member l c.run_end-front.result.last (run-last_in (group c.args.t.now c.args.k) l c.last_of_most-first.result c.run_end-front.result.last c.run_end-front.ensures.ends)))
 
 pub loop-turn-init : goal.loop-turn-init
 loop-turn-init c =
@@ -39,9 +37,8 @@ loop-turn-init c =
       c.run_end-ahead.ensures.key,
       record {
         back = c.run_end-ahead.result.last;
-        turning = turning-start key l (slice_index_or c.incident.result.now 0 0) c.run_end-front.result.last c.run_end-ahead.result.last (order-distinct c.args.g.now c.args.r.now c.args.v c.requires.system c.requires.vertex) c.requires.runs
-            (incident-in c.args.g.now c.args.r.now c.args.v 0 c.incident.result.now c.requires.system c.requires.vertex c.incident.ensures.value
-            (omega (arith, ap length c.incident.ensures.value, order-length c.args.g.now c.args.r.now c.args.v c.requires.system c.requires.vertex, two-filled key l c.requires.runs)))
+        turning = turning-start key l c.last_of_most-first.result c.run_end-front.result.last c.run_end-ahead.result.last (order-distinct c.args.g.now c.args.r.now c.args.v c.requires.system c.requires.vertex) c.requires.runs
+            c.last_of_most-first.ensures
             c.run_end-front.ensures.ends
             (subst (λ z. EndsRun key l z c.run_end-ahead.result.last) c.run_end-front.ensures.next c.run_end-ahead.ensures.ends);
         is = c.run_end-ahead.ensures.next;
@@ -55,7 +52,7 @@ returns-then-ahead-key-clause-turned c =
     let key = group c.args.t.now c.args.k in
     let w = c.loop-turn.invariant.3 in
     turning-done key l m c.run_end-front.result.last w.back c.loop-turn._turn w.turning (order-distinct c.args.g.now c.loop-turn.r c.args.v c.loop-turn.invariant.0 c.requires.vertex)
-    (ap key (sym w.is) ∙ sym c.loop-turn.invariant.2 ∙ c.if-ahead-key.true ∙ c.group-key.ensures ∙ sym (last-key key l (slice_index_or c.incident.result.now 0 0) c.run_end-front.result.last c.run_end-front.ensures.ends))
+    (ap key (sym w.is) ∙ sym c.loop-turn.invariant.2 ∙ c.if-ahead-key.true ∙ c.group-key.ensures ∙ sym (last-key key l c.last_of_most-first.result c.run_end-front.result.last c.run_end-front.ensures.ends))
 
 pub run_end-run-requires-clause-ends : goal.run_end-run-requires-clause-ends
 run_end-run-requires-clause-ends c =
@@ -73,7 +70,7 @@ move_run-requires c =
     let key = group c.args.t.now c.args.k in
     let w = c.loop-turn.invariant.3 in
     let other : key (successor m w.back) ≢ key c.run_end-front.result.last = λ q. c.if-ahead-key.false
-    (c.loop-turn.invariant.2 ∙ ap key w.is ∙ q ∙ last-key key l (slice_index_or c.incident.result.now 0 0) c.run_end-front.result.last c.run_end-front.ensures.ends ∙ sym c.group-key.ensures) in
+    (c.loop-turn.invariant.2 ∙ ap key w.is ∙ q ∙ last-key key l c.last_of_most-first.result c.run_end-front.result.last c.run_end-front.ensures.ends ∙ sym c.group-key.ensures) in
     subst (λ z. IsOutside m z c.run_end-run.result.last c.run_end-front.result.last) (sym w.is)
     (turning-outside key l m c.run_end-front.result.last w.back c.loop-turn._turn w.turning (order-distinct c.args.g.now c.loop-turn.r c.args.v c.loop-turn.invariant.0 c.requires.vertex) c.run_end-run.result.last other
     (subst (λ z. EndsRun key m z c.run_end-run.result.last) w.is c.run_end-run.ensures.ends))
@@ -89,7 +86,7 @@ loop-turn-preserved c =
     let system : IsRotationSystem c.args.g.now c.move_run.new.self =
     moved-system c.args.g.now c.loop-turn.r c.move_run.new.self c.args.v c.loop-turn.ahead.next c.run_end-run.result.last c.run_end-front.result.last c.loop-turn.invariant.0 c.requires.vertex c.move_run.ensures.moved c.move_run.ensures.elsewhere in
     let other : key (successor m w.back) ≢ key c.run_end-front.result.last = λ q. c.if-ahead-key.false
-    (c.loop-turn.invariant.2 ∙ ap key w.is ∙ q ∙ last-key key l (slice_index_or c.incident.result.now 0 0) c.run_end-front.result.last c.run_end-front.ensures.ends ∙ sym c.group-key.ensures) in
+    (c.loop-turn.invariant.2 ∙ ap key w.is ∙ q ∙ last-key key l c.last_of_most-first.result c.run_end-front.result.last c.run_end-front.ensures.ends ∙ sym c.group-key.ensures) in
     let ends = subst (λ z. EndsRun key m z c.run_end-run.result.last) w.is c.run_end-run.ensures.ends in
     let moved = subst (λ z. IsRunMoved m n z c.run_end-run.result.last c.run_end-front.result.last) w.is c.move_run.ensures.moved in (
       system,
