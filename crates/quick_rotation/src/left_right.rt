@@ -1,6 +1,7 @@
 // The left-right method as a whole: whether a list of edges is planar, and if so, the darts around each vertex.
 
 use crate::brackets::Brackets;
+use crate::complete::complete_rotation;
 use crate::conflicts::Conflicts;
 use crate::edges::{EdgeEnds, Parts, count_up};
 use crate::orders::orders;
@@ -130,8 +131,11 @@ fn lists(alloc: Global, orders: &Bins, vertices: u32) -> Result<Lists, AllocErro
 }
 
 /// The edges around each vertex in cyclic orders that may be a plane rotation system of the graph; `None` where the method finds
-/// that it is not planar. In linear time. Fails only if memory runs out.
+/// that it is not planar. In linear time, without a search for K4. Fails only if memory runs out.
 pub fn propose_rotation(alloc: Global, g: &Graph) -> Result<Option<Lists>, AllocError> {
+    if let Some(lists) = complete_rotation(alloc, g)? {
+        return Ok(Some(lists));
+    }
     let list = EdgeEnds::of(alloc, g)?;
     let Some(orders) = plane_orders(alloc, &list)? else {
         return Ok(None);

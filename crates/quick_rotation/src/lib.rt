@@ -14,6 +14,7 @@
 
 pub mod access;
 mod brackets;
+mod complete;
 mod conflicts;
 mod edges;
 mod left_right;
