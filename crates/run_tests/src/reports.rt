@@ -379,6 +379,68 @@ fn blocks_and_their_embeddings(rt: HostRuntime) -> Result<(), Fail> {
     Ok(())
 }
 
+// Graphs with equal blocks, scripts, and the reports.
+static EQUAL_BLOCKS: [(&[u8], &[u8], &[u8]); 3] = [
+    // A path of three edges, one the other way around, and two parallel edges.
+    (
+        b"graph [ node [ id 0 ] node [ id 1 ] node [ id 2 ] node [ id 3 ] node [ id 4 ] edge [ source 0 \
+        target 1 ] edge [ source 2 target 1 ] edge [ source 2 target 3 ] edge [ source 3 target 4 ] \
+        edge [ source 3 target 4 ] ]",
+        b"show 0\nshow 1\nshow 2\nshow 3\nwhole 0\n",
+        b"graph 5 5\nvertex 0 0\nvertex 1 1\nvertex 2 2\nvertex 3 3\nvertex 4 4\ncut 1\ncut 2\ncut 3\n\
+        block 0: 0\nnode 0 B 0 1 | 0:0-1\nplanar 0\nblock 1: 1\nnode 0 B 1 2 | 1:1-2\nplanar 1\nblock \
+        2: 2\nnode 0 B 2 3 | 2:2-3\nplanar 2\nblock 3: 3 4\nnode 0 B 3 4 | 3:3-4 4:3-4\nplanar 3\n\
+        rotation 0 | 0: 0; 1: 0\nrotation 1 | 1: 1; 2: 1\nrotation 2 | 2: 2; 3: 2\nrotation 3 | 3: 3 4; \
+        4: 3 4\nwhole 0 | 0: 0; 1: 0 1; 2: 1 2; 3: 2 3 4; 4: 3 4\n",
+    ),
+    // Two K4 joined by an edge: a change of one is none of the other.
+    (
+        b"graph [ node [ id 0 ] node [ id 1 ] node [ id 2 ] node [ id 3 ] node [ id 4 ] node [ id 5 ] \
+        node [ id 6 ] node [ id 7 ] edge [ source 0 target 1 ] edge [ source 0 target 2 ] edge [ source \
+        0 target 3 ] edge [ source 1 target 2 ] edge [ source 1 target 3 ] edge [ source 2 target 3 ] \
+        edge [ source 3 target 4 ] edge [ source 4 target 5 ] edge [ source 4 target 6 ] edge [ source \
+        4 target 7 ] edge [ source 5 target 6 ] edge [ source 5 target 7 ] edge [ source 6 target 7 ] ]",
+        b"flip 2 0\nshow 0\nshow 2\nundo\nshow 2\nlock 0 0\nmirror 2\nmirror 0\nrank 0\nrank 2\n",
+        b"graph 8 13\nvertex 0 0\nvertex 1 1\nvertex 2 2\nvertex 3 3\nvertex 4 4\nvertex 5 5\nvertex 6 6\n\
+        vertex 7 7\ncut 3\ncut 4\nblock 0: 0 1 2 3 4 5\nnode 0 R 0 1 2 3 | 0:0-1 1:0-2 2:0-3 3:1-2 \
+        4:1-3 5:2-3\nplanar 0\nblock 1: 6\nnode 0 B 3 4 | 6:3-4\nplanar 1\nblock 2: 7 8 9 10 11 12\n\
+        node 0 R 4 5 6 7 | 7:4-5 8:4-6 9:4-7 10:5-6 11:5-7 12:6-7\nplanar 2\nok\nrotation 0 | 0: 0 1 2; \
+        1: 0 4 3; 2: 1 3 5; 3: 2 5 4\nrotation 2 | 4: 7 9 8; 5: 7 10 11; 6: 8 12 10; 7: 9 11 12\nok\n\
+        rotation 2 | 4: 7 8 9; 5: 7 11 10; 6: 8 10 12; 7: 9 12 11\nok\nok\nerror 12 0\nrank 0\nrank 1\n",
+    ),
+    // Two K3,3 joined by an edge: each certificate has the numbers of its block.
+    (
+        b"graph [ node [ id 0 ] node [ id 1 ] node [ id 2 ] node [ id 3 ] node [ id 4 ] node [ id 5 ] \
+        node [ id 6 ] node [ id 7 ] node [ id 8 ] node [ id 9 ] node [ id 10 ] node [ id 11 ] edge [ \
+        source 0 target 3 ] edge [ source 0 target 4 ] edge [ source 0 target 5 ] edge [ source 1 \
+        target 3 ] edge [ source 1 target 4 ] edge [ source 1 target 5 ] edge [ source 2 target 3 ] \
+        edge [ source 2 target 4 ] edge [ source 2 target 5 ] edge [ source 5 target 6 ] edge [ source \
+        6 target 9 ] edge [ source 6 target 10 ] edge [ source 6 target 11 ] edge [ source 7 target 9 ] \
+        edge [ source 7 target 10 ] edge [ source 7 target 11 ] edge [ source 8 target 9 ] edge [ \
+        source 8 target 10 ] edge [ source 8 target 11 ] ]",
+        b"",
+        b"graph 12 19\nvertex 0 0\nvertex 1 1\nvertex 2 2\nvertex 3 3\nvertex 4 4\nvertex 5 5\nvertex 6 \
+        6\nvertex 7 7\nvertex 8 8\nvertex 9 9\nvertex 10 10\nvertex 11 11\ncut 5\ncut 6\nblock 0: 0 1 2 \
+        3 4 5 6 7 8\nnode 0 R 0 1 2 3 4 5 | 0:0-3 1:0-4 2:0-5 3:1-3 4:1-4 5:1-5 6:2-3 7:2-4 8:2-5\n\
+        nonplanar 0 K33 0 1 2 3 4 5\npath 0 3: 0\npath 0 4: 1\npath 0 5: 2\npath 1 3: 3\npath 1 4: 4\n\
+        path 1 5: 5\npath 2 3: 6\npath 2 4: 7\npath 2 5: 8\nblock 1: 9\nnode 0 B 5 6 | 9:5-6\nplanar 1\n\
+        block 2: 10 11 12 13 14 15 16 17 18\nnode 0 R 6 7 8 9 10 11 | 10:6-9 11:6-10 12:6-11 13:7-9 \
+        14:7-10 15:7-11 16:8-9 17:8-10 18:8-11\nnonplanar 2 K33 6 7 8 9 10 11\npath 6 9: 10\npath 6 10: \
+        11\npath 6 11: 12\npath 7 9: 13\npath 7 10: 14\npath 7 11: 15\npath 8 9: 16\npath 8 10: 17\n\
+        path 8 11: 18\n",
+    ),
+];
+
+#[test]
+fn equal_blocks_have_their_own_numbers(rt: HostRuntime) -> Result<(), Fail> {
+    for (graph, script, report) in EQUAL_BLOCKS {
+        let (found, written) = answer(rt.alloc(), (graph, script), (&[], &[]), 1000)?;
+        assert_eq!(rt; found, Status::Done);
+        assert_eq!(rt; written.as_slice(), report);
+    }
+    Ok(())
+}
+
 #[test]
 fn statuses_have_numbers(rt: HostRuntime) {
     for (status, number) in [
