@@ -81,16 +81,6 @@ module _ (keys c : List ℕ) (b : IsBondOf keys c) where
   pub bond-behind : drop 1 c ≡ b.rest
   bond-behind = ap (drop 1) b.is
 
-  pub key-behind : (i : ℕ) → 0 < i → i < length keys → is_member (slice_index_or keys i 0) (drop 1 c) ≡ true
-  key-behind i n l = at i n l (ap (λ (z : List ℕ). slice_index_or z i 0) b.node)
-    where
-      at : (i : ℕ) → 0 < i → i < length keys → slice_index_or keys i 0 ≡ slice_index_or (b.key ∷ b.others) i 0 → is_member (slice_index_or keys i 0) (drop 1 c) ≡ true
-      at zero n l e = absurd (omega (arith, n))
-      at (suc i) n l e =
-          let m : is_member (slice_index_or b.others i 0) b.others ≡ true = member-at b.others i 0 (omega (arith, l, ap length b.node)) in
-          subst (λ (z : List ℕ). is_member (slice_index_or keys (suc i) 0) z ≡ true) (sym bond-behind)
-          (subst (λ z. is_member z b.rest ≡ true) (sym e) (permutation-member b.others b.rest (slice_index_or b.others i 0) b.same ∙ m))
-
   -- the first places agree
   pub bond-first : take 1 c ≡ take 1 keys
   bond-first = ap (take 1) b.is ∙ sym (ap (take 1) b.node)

@@ -4,7 +4,7 @@
 // Mac Lane 1937). Each leads from a plane rotation system to a plane one. A locked node is not moved. A call that
 // fails says why, and leaves the block as it was. Nothing but `back` takes memory.
 //
-// Where a move leads is told by the choices: it keeps all but that of its node, and a plane rotation system is determined by its choices. So
+// Where a move leads is determined by the choices: it keeps all but that of its node, and a plane rotation system is determined by its choices. So
 // the permute to the present choice of a bond leads back to it from whichever order its groups are brought into.
 #![tactic(auto)]
 

@@ -1,7 +1,7 @@
 -- The keys of the choices of all nodes, as they are kept, in the first rotation system and in another one.
 use Rattle.std.proofs.Common.{◌≡◌, ℕ, ◌<◌, Bool, true, List, [], length, map, slice_index_or, sym, ap, ◌∙◌, subst, arith}
 use Rattle.std.specs.List.{concat}
-use Rattle.std.proofs.lemmas.List.{length-map, get_or-map}
+use Rattle.std.proofs.lemmas.List.{length-map, get_or-map, ext_get_or}
 use Rattle.multigraph.specs.Graph.{numbers_below}
 use Rattle.multigraph.proofs.Below.{get_or-numbers_below, length-numbers_below}
 use Rattle.pair_split.specs.Tutte.{Node}
@@ -48,6 +48,12 @@ choices-in_many nodes family = listed-many (λ j. choice_in nodes j (system_at f
 pub first-kept : (g : Multigraph) (nodes : List Node) (b : IsBlockTree g nodes) (family : List (List (List ℕ))) (r : List (List ℕ)) → FollowsFamily nodes family r → (keys ends : List ℕ) → AreFlat (choices_in nodes family) keys ends → AreChoices nodes r (length nodes) (lists_in keys ends)
 first-kept g nodes b family r h keys ends f = subst (AreChoices nodes r (length nodes)) (sym (flat-view (choices_in nodes family) keys ends f))
     (record { each = choices-in_many nodes family; is = λ k l. choices-in_at nodes family k l ∙ sym (choice-followed g nodes b family r h k l) })
+
+-- so they are the choices of what follows it
+pub choices-followed : (g : Multigraph) (nodes : List Node) (b : IsBlockTree g nodes) (family : List (List (List ℕ))) (r : List (List ℕ)) → FollowsFamily nodes family r → choices_in nodes family ≡ choices_by nodes r
+choices-followed g nodes b family r h = ext_get_or [] (choices_in nodes family) (choices_by nodes r) (choices-in_many nodes family ∙ sym (choices-by_many nodes r)) (λ k l.
+    let m : k < length nodes = subst (λ n. k < n) (choices-in_many nodes family) l in
+    choices-in_at nodes family k m ∙ sym (choice-followed g nodes b family r h k m) ∙ sym (choices-by_at nodes r k m))
 
 module _ (s : BlockState) (is : IsBlockState s) (q : List (List ℕ)) (p : IsPlaneSystem s.graph q) where
   -- the choices of another plane rotation system end where those of the present one do

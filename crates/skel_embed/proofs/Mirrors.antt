@@ -16,11 +16,7 @@ use Rattle.faces.proofs.DartLemmas.{order-distinct}
 use Rattle.faces.proofs.MapMirror.{mirror-order, mirror-system}
 use Rattle.skel_embed.specs.Fan.{TurnsRight}
 
--- an edge in an order of the mirror image is in the order
-pub mirror-member : (r : List (List ℕ)) (v e : ℕ) → is_member e (order_at (mirror_image r) v) ≡ true → is_member e (order_at r v) ≡ true
-mirror-member r v e m = sym (ap (is_member e) (mirror-order r v) ∙ from_least-member (reverse (order_at r v)) e ∙ member-reverse e (order_at r v)) ∙ m
-
--- what it follows there follows it in the mirror image
+-- what an edge follows in the mirror image follows it in the rotation system
 pub mirror-next : (g : Multigraph) (r : List (List ℕ)) → IsRotationSystem g r → (v e : ℕ) → v < g.vertex_count → predecessor (order_at r v) e ≡ successor (order_at (mirror_image r) v) e
 mirror-next g r s v e l = sym (ap (λ (z : List ℕ). successor z e) (mirror-order r v) ∙ mirror-successor (order_at r v) e (order-distinct g r v s l))
 

@@ -137,9 +137,6 @@ module _ (g : Multigraph) (nodes : List Node) (b : IsBlockTree g nodes) (r : Lis
   met-round : 1 < length runs.0 → from_least (runs_met nodes r k v) ≡ keys_round nodes r k v
   met-round two = sym (from_least-same (group_keys runs.0) (runs_met nodes r k v) (IsTurn-sym (runs_met nodes r k v) (group_keys runs.0) (met-turn two)) runs.1.once) ∙ sym (met-runs (group nodes k) (order_at r v) runs.0 runs.1)
 
-  met-distinct : 1 < length runs.0 → is_distinct (runs_met nodes r k v) ≡ true
-  met-distinct two = IsTurn-distinct (group_keys runs.0) (runs_met nodes r k v) (IsTurn-sym (runs_met nodes r k v) (group_keys runs.0) (met-turn two)) runs.1.once
-
 -- the first member of a list that has one
 head-member : (l : List ℕ) → 0 < length l → is_member (first_or 0 l) l ≡ true
 head-member [] h = absurd (omega (arith, h))
@@ -220,28 +217,6 @@ module _ (g : Multigraph) (nodes : List Node) (b : IsBlockTree g nodes) (r q : L
   -- the keys at the least vertex
   pub choice-from : (0 < length old) × (is_member (first_or 0 old) (runs_met nodes r k v) ≡ true) × (turned (runs_met nodes r k v) (first_or 0 old) ≡ choice nodes r k)
   choice-from = begun (runs_met nodes r k v) (choice-met r p)
-
-  -- those at the greater pole of a bond, in reverse
-  module _ (bond : kind ≡ P) where
-    abbrev far : ℕ
-    far = greatest_vertex nodes k
-
-    far-has : has_vertex nodes k far ≡ true
-    far-has = greatest-has g nodes b k l
-
-    far-two : 1 < length (runs g nodes b r p k l far far-has).0
-    far-two = two-bond g nodes b r p k l far far-has (is ∙ bond)
-
-    far-own : choice nodes r k ≡ from_least (reverse (runs_met nodes r k far))
-    far-own =
-        let c = choice nodes r k in
-        let normal = choice-normal g nodes b r k p l in
-        let round : from_least (runs_met nodes r k far) ≡ from_least (reverse c) = met-round g nodes b r p k l far far-has far-two ∙ bond-round g nodes b r k p (l, is ∙ bond) ∙ ap (λ (z : List ℕ). from_least (reverse z)) (sym (round-own g nodes b k l kind is which r)) in
-        let twice : from_least (reverse (from_least (reverse c))) ≡ c = mirror-normal (reverse c) (distinct-reverse c normal.0) ∙ ap from_least (reverse-reverse c) ∙ normal.1 in
-        sym (sym (mirror-normal (runs_met nodes r k far) (met-distinct g nodes b r p k l far far-has far-two)) ∙ ap (λ (z : List ℕ). from_least (reverse z)) round ∙ twice)
-
-    pub choice-from_far : (0 < length old) × (is_member (first_or 0 old) (reverse (runs_met nodes r k far)) ≡ true) × (turned (reverse (runs_met nodes r k far)) (first_or 0 old) ≡ choice nodes r k)
-    choice-from_far = begun (reverse (runs_met nodes r k far)) far-own
 
 -- one edge more on the way round
 filter-first : (p : ℕ → Bool) (x : ℕ) (xs : List ℕ) → p x ≡ true → filter p (x ∷ xs) ≡ x ∷ filter p xs

@@ -76,7 +76,7 @@ fn append_choice(
 }
 
 // The keys of the choices that the members give the nodes, and where each choice ends.
-fn choices_of(
+pub(crate) fn choices_in(
     alloc: Global,
     tree: &Tree,
     members: &[Rotation],
@@ -110,7 +110,7 @@ fn in_plane(
     ensures locks { IfOk result (λ p. p.locks ≡ replicate (length t) false) }
 {
     let rotation = compose(alloc, &g, &t, members)?;
-    let (keys, ends) = choices_of(alloc, &t, members)?;
+    let (keys, ends) = choices_in(alloc, &t, members)?;
     let locks = vec![in alloc; false; t.node_count() as usize]?;
     let frame = Rc::new(
         alloc,

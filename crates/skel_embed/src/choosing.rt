@@ -9,15 +9,16 @@ ghost use Rattle.pair_split.specs.declared.components.Kind.TheVariants.{P, R};
 ghost use Rattle.skeletons.specs.Items.{has_vertex, IsBlockTree};
 ghost use Rattle.faces.specs.Euler.{IsPlaneSystem};
 ghost use Rattle.skeletons.specs.Choices.{choice};
-ghost use Rattle.skeletons.specs.Moves.{IsNodeOfKind};
 ghost use Rattle.skel_embed.specs.Block.{AreChoices, choices_by};
 ghost use Rattle.skel_embed.specs.Taken.{runs_met, IsFirstOther, NoneOther};
 
+use crate::blocks_in_plane::choices_in;
 use crate::choices::Choices;
 use crate::kept::place_of;
 use multigraph::Graph;
 use pair_split::Kind;
 use rotations::Rotation;
+use skel_decompose::decompose;
 use spqr_tree::Tree;
 use std::alloc::{AllocError, Global};
 
@@ -76,32 +77,6 @@ fn keys_from(
     Ok(keys)
 }
 
-// The choice of the bond k, read around the pole that has fewer edges: around the greater one its keys are in reverse.
-fn bond_keys(
-    alloc: Global,
-    g: &Graph,
-    t: &Tree,
-    r: &Rotation,
-    k: u32,
-    old: &[u32],
-) -> Result<Vec<u32>, AllocError>
-    requires block { IsBlockTree g.now t.now }
-    requires node { IsNodeOfKind t.now k P }
-    requires plane { IsPlaneSystem g.now r.now }
-    requires old { (q : List (List ℕ)) × IsPlaneSystem g.now q × (old.now ≡ choice t.now q k) }
-    ensures { IfOk result (λ keys. keys.items ≡ choice t.now r.now k) }
-{
-    let vertices = t.vertices(k);
-    let far = vertices[vertices.len() - 1];
-    if g.degree(vertices[0]) <= g.degree(far) {
-        return keys_from(alloc, g, t, r, k, old);
-    }
-    let mut keys = keys_of_runs(alloc, g, t, r, k, far)?;
-    keys.reverse();
-    begin_with(&mut keys, old[0]);
-    Ok(keys)
-}
-
 // The choice of node k; `old` is the one in some plane rotation system.
 fn choice_of(
     alloc: Global,
@@ -118,14 +93,13 @@ fn choice_of(
     ensures { IfOk result (λ keys. keys.items ≡ choice t.now r.now k) }
 {
     match t.kind(k) {
-        Kind::P => bond_keys(alloc, g, t, r, k, old),
-        Kind::R => keys_from(alloc, g, t, r, k, old),
+        Kind::P | Kind::R => keys_from(alloc, g, t, r, k, old),
         Kind::S | Kind::B => Ok(Vec::new(alloc)),
     }
 }
 
-// The keys of the choices of all nodes, one choice after the other; `old` are those in some plane rotation system.
-pub(crate) fn choices_of(
+// The keys of the choices of all nodes, read by a walk around the least vertex of each; `old` are those in some plane rotation system.
+fn choices_by_walks(
     alloc: Global,
     g: &Graph,
     t: &Tree,
@@ -144,6 +118,57 @@ pub(crate) fn choices_of(
         keys.extend_from_slice(&list)?;
     }
     Ok(keys)
+}
+
+// The keys of the choices of all nodes, read off the rotation systems of all skeletons.
+fn choices_by_members(
+    alloc: Global,
+    g: &Graph,
+    t: &Tree,
+    r: &Rotation,
+) -> Result<Vec<u32>, AllocError>
+    requires block { IsBlockTree g.now t.now }
+    requires plane { IsPlaneSystem g.now r.now }
+    ensures { IfOk result (λ keys. keys.items ≡ concat (choices_by t.now r.now)) }
+{
+    let members = decompose(alloc, g, t, r)?;
+    let (keys, _ends) = choices_in(alloc, t, &members)?;
+    Ok(keys)
+}
+
+// How many edges walks around the least vertices of all nodes with a choice look at.
+fn edges_walked(g: &Graph, t: &Tree) -> u64
+    requires { IsBlockTree g.now t.now }
+{
+    let mut sum: u64 = 0;
+    for k in 0..t.node_count() {
+        if t.kind(k).has_choices() {
+            sum = sum.saturating_add(g.degree(t.vertices(k)[0]) as u64);
+        }
+    }
+    sum
+}
+
+// The keys of the choices of all nodes, one choice after the other; `old` are those in some plane rotation system. Where many nodes
+// have their least vertex at the same edges, walks around it would look at these again and again: the skeletons are then taken.
+pub(crate) fn choices_of(
+    alloc: Global,
+    g: &Graph,
+    t: &Tree,
+    r: &Rotation,
+    old: &Choices<'_>,
+) -> Result<Vec<u32>, AllocError>
+    requires block { IsBlockTree g.now t.now }
+    requires plane { IsPlaneSystem g.now r.now }
+    requires old { (q : List (List ℕ)) × IsPlaneSystem g.now q
+        × AreChoices t.now q (length t.now) old.now }
+    ensures { IfOk result (λ keys. keys.items ≡ concat (choices_by t.now r.now)) }
+{
+    if edges_walked(g, t) / 4 > g.edge_count() as u64 {
+        choices_by_members(alloc, g, t, r)
+    } else {
+        choices_by_walks(alloc, g, t, r, old)
+    }
 }
 
 // Whether two lists of keys differ.

@@ -12,8 +12,8 @@
 //
 // A triconnected node is flipped, and two groups of a bond are exchanged, or all brought into another order, by moving the runs in
 // which the groups lie around the vertices of the node: a run is found by walking along it, and moved without looking at it. One group,
-// that beyond which the tree has most, stays where it is and is not walked along, where it can be told (sizes). So no memory is taken, and
-// the inside of a group is never touched. `take` accepts lists where V - E + F is 2 (Euler 1758,
+// that beyond which the tree has most, stays where it is, and is not walked along if an edge of it is found nearby (sizes). So no memory
+// is taken, and the inside of a group is never touched. `take` accepts lists where V - E + F is 2 (Euler 1758,
 // Heffter 1891).
 //
 // The lemmas (module of proofs/ in front):

@@ -14,8 +14,8 @@ use multigraph::Graph;
 use rotations::Rotation;
 use spqr_tree::Tree;
 
-// Reverses the cyclic order of the groups of node k around v: each run after the second is moved to the place after the first. The first is
-// that of a group of many edges, from its last edge on: it is not walked along.
+// Reverses the cyclic order of the groups of node k around v: each run after the second is moved to the place after the first. The first
+// begins at the edge that last_of_most returns, so that the greatest group is not walked along if that is its last edge.
 fn turn_round(g: &Graph, t: &Tree, r: &mut Rotation, k: u32, v: u32)
     requires block { IsBlockTree g.now t.now }
     requires node { k < length t.now }

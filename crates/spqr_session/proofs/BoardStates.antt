@@ -44,27 +44,6 @@ module _ (setting : Setting) (board : BoardView) where
   redo-refused text e t = refused-first (redo_ladder (board_state setting board)) refl Redoes (board_state setting board) NothingToRedo text
       (rung-hit NothingToRedo (is_none (board_state setting board).later) [] (none-seen setting board.later ∙ e)) t
 
-  -- and where something is
-  pub undo-done : (after : BoardView) (text : List ℕ) → is_none board.earlier ≡ false → text ≡ ok_text → IsUndone board after → UndoStep (board_state setting board) text (board_state setting after)
-  undo-done after text e t u = carried-out (undo_ladder (board_state setting board)) refl Undoes (board_state setting board) text (board_state setting after)
-      (rung-missed NothingToUndo (is_none (board_state setting board).earlier) [] None (none-seen setting board.earlier ∙ e) refl) (record {
-        family = family_of setting u.kept;
-        others = map (family_of setting) u.others;
-        nearest = ap (map (family_of setting)) u.nearest;
-        after_is = λ i. record { present = family_of setting (u.stands i); earlier = map (family_of setting) (u.earlier i); later = map (family_of setting) (u.later i) };
-        answer = t;
-      })
-
-  pub redo-done : (after : BoardView) (text : List ℕ) → is_none board.later ≡ false → text ≡ ok_text → IsRedone board after → RedoStep (board_state setting board) text (board_state setting after)
-  redo-done after text e t u = carried-out (redo_ladder (board_state setting board)) refl Redoes (board_state setting board) text (board_state setting after)
-      (rung-missed NothingToRedo (is_none (board_state setting board).later) [] None (none-seen setting board.later ∙ e) refl) (record {
-        family = family_of setting u.kept;
-        others = map (family_of setting) u.others;
-        nearest = ap (map (family_of setting)) u.nearest;
-        after_is = λ i. record { present = family_of setting (u.stands i); earlier = map (family_of setting) (u.earlier i); later = map (family_of setting) (u.later i) };
-        answer = t;
-      })
-
 -- ---- locks
 
 module _ (on : Bool) (board : BoardView) (b k : ℕ) where

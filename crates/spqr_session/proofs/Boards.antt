@@ -22,10 +22,6 @@ pub record IsAdded (old new : UndoHistory) (s : Step) : Type 0 where
 pub noted-added : (old room new : UndoHistory) (s : Step) → room.steps ≡ old.steps → room.cursor ≡ old.cursor → Noted room s new → IsAdded old new s
 noted-added old room new s e c w = record { steps = w.steps ∙ ap₂ (λ (n : ℕ) (l : List Step). take n l ++ s ∷ []) c e; cursor = w.cursor ∙ ap (λ (n : ℕ). n + 1) c }
 
--- there is one step at a place
-pub step-one : (steps : List Step) (i j : ℕ) (s t : Step) → i ≡ j → IsStepAt steps i s → IsStepAt steps j t → s ≡ t
-step-one steps i j s t e h k = sym h.is ∙ get_or_default steps i s t h.within ∙ ap (λ (n : ℕ). slice_index_or steps n t) e ∙ k.is
-
 -- the step at a place, on both sides of it
 taken-to : (steps : List Step) (c : ℕ) (s : Step) → IsStepAt steps c s → reverse (take (c + 1) steps) ≡ s ∷ reverse (take c steps)
 taken-to steps c s h =
@@ -121,33 +117,9 @@ module _ (views other : List BlockView) (lists new_lists : List (Option (List �
     pub board-back : IsBoard other new_lists new
     board-back = rights (subst (λ (k : Kept). IsHistory (map view_tree views) k new) (sym e) (history-back (map view_tree views) (kept_on views lists) old new s h.0 w)) (ap (λ (k : Kept). length k.lists) e ∙ set-length (lists_before s) lists)
 
-    pub board-undone : IsUndone (board_view views lists old) (board_view other new_lists new)
-    board-undone = record {
-      kept = undone (map view_tree views) s (kept_on views lists);
-      others = walk (undone (map view_tree views)) (undone (map view_tree views) s (kept_on views lists)) (steps_before new);
-      nearest = ap (walk (undone (map view_tree views)) (kept_on views lists)) (back-before (map view_tree views) old new s w);
-      earlier = ap (λ (l : List BlockTree). walk (undone l) (kept_on other new_lists) (steps_before new)) c.trees ∙ ap (λ (k : Kept). walk (undone (map view_tree views)) k (steps_before new)) e;
-      stands = e;
-      later = ap (λ (l : List BlockTree). walk (redone l) (kept_on other new_lists) (steps_after new)) c.trees ∙ ap (λ (k : Kept). walk (redone (map view_tree views)) k (steps_after new)) e
-          ∙ ap (walk (redone (map view_tree views)) (undone (map view_tree views) s (kept_on views lists))) (back-after (map view_tree views) old new s w)
-          ∙ ap (λ (k : Kept). k ∷ walk (redone (map view_tree views)) k (steps_after old)) (returned (map view_tree views) (kept_on views lists) old new s h.0 w);
-    }
-
   module _ (w : WentOn old s new) (e : kept_on other new_lists ≡ redone (map view_tree views) s (kept_on views lists)) where
     pub board-on : IsBoard other new_lists new
     board-on = rights (subst (λ (k : Kept). IsHistory (map view_tree views) k new) (sym e) (history-on (map view_tree views) (kept_on views lists) old new s h.0 w)) (ap (λ (k : Kept). length k.lists) e ∙ set-length (lists_after s) lists)
-
-    pub board-redone : IsRedone (board_view views lists old) (board_view other new_lists new)
-    board-redone = record {
-      kept = redone (map view_tree views) s (kept_on views lists);
-      others = walk (redone (map view_tree views)) (redone (map view_tree views) s (kept_on views lists)) (steps_after new);
-      nearest = ap (walk (redone (map view_tree views)) (kept_on views lists)) (on-after (map view_tree views) old new s w);
-      later = ap (λ (l : List BlockTree). walk (redone l) (kept_on other new_lists) (steps_after new)) c.trees ∙ ap (λ (k : Kept). walk (redone (map view_tree views)) k (steps_after new)) e;
-      stands = e;
-      earlier = ap (λ (l : List BlockTree). walk (undone l) (kept_on other new_lists) (steps_before new)) c.trees ∙ ap (λ (k : Kept). walk (undone (map view_tree views)) k (steps_before new)) e
-          ∙ ap (walk (undone (map view_tree views)) (redone (map view_tree views) s (kept_on views lists))) (on-before (map view_tree views) old new s w)
-          ∙ ap (λ (k : Kept). k ∷ walk (undone (map view_tree views)) k (steps_before old)) (repeated (map view_tree views) (kept_on views lists) old new s h.0 w);
-    }
 
   module _ (kept : Kept) (w : IsAdded old new s) (leads : LeadsTo views lists kept s) (e : kept_on other new_lists ≡ kept) where
     back : undone (map view_tree views) s (kept_on other new_lists) ≡ kept_on views lists

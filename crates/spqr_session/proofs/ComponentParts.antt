@@ -181,6 +181,3 @@ module _ (setting : Setting) (kept : Kept) (c : ℕ) (l : c < setting.structure.
 
   pub kept-lists : is_planar_component setting c ≡ true → arrangements_in (family_of setting kept) c ≡ Some (lists_kept (component_at setting c) (blocks_with setting.trees kept.entries) kept.lists)
   kept-lists planar = kept-arrangements ∙ cond-true (is_planar_component setting c) (Some (lists_kept (component_at setting c) (blocks_with setting.trees kept.entries) kept.lists)) None planar
-
-  pub kept-none : is_planar_component setting c ≡ false → arrangements_in (family_of setting kept) c ≡ None
-  kept-none f = kept-arrangements ∙ cond-false (is_planar_component setting c) (Some (lists_kept (component_at setting c) (blocks_with setting.trees kept.entries) kept.lists)) None f

@@ -187,9 +187,6 @@ module _ (setting : Setting) (is : IsSetting setting) (views : List BlockView) (
 
 -- ---- the next member of a component's list
 
-in-with : (part : GraphPart) (o : Option BlockState) (p : BlockState) (r : List (List ℕ)) → o ≡ Some p → in_plane part (Some p) ≡ in_plane part o
-in-with part o p r e = ap (in_plane part) (sym e)
-
 -- blocks that keep all but their rotation systems are those with their parts
 pub walked-blocks : (k : Component) (old new : List Member) (q : List (List ℕ)) → HavePlanes k old → KeepsBlocks k old new → ((b : ℕ) → is_member b k.blocks ≡ true → block_part k (blocks_in new b).part q ≡ (blocks_in new b).rotation)
     → blocks_in new ≡ blocks_to k (blocks_in old) q

@@ -194,10 +194,6 @@ module _ (n : ℕ) (trees : List BlockTree) (family : Family) where
     pub long : length texts ≡ n
     pub each : (v : ℕ) → v < n → slice_index_or texts v [] ≡ with_numbers [] (joined (block_list v) k)
 
-  -- no block yet
-  pub no-texts : (texts : List (List ℕ)) → texts ≡ replicate n [] → AreTexts 0 texts
-  no-texts texts e = subst (AreTexts 0) (sym e) (record { long = length-replicate n []; each = λ v l. get_or-replicate n v [] [] l })
-
   -- one block more
   pub texts-more : (k : ℕ) (old new : List (List ℕ)) → AreTexts k old → AreExtended (block_numbers (tree_at trees k) (entry_at family k)) old new → AreTexts (k + 1) new
   texts-more k old new h more = rw add-one (record {

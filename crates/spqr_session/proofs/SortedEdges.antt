@@ -15,10 +15,6 @@ use Rattle.spqr_session.specs.Sorting.{IsBlockNoted, HasBlocks, IsKnown, of_bloc
 
 -- ---- the block of each edge
 
--- no edge is noted yet
-pub none-noted : (b : ℕ) (old : List ℕ) → IsBlockNoted [] b old old
-none-noted b old = record { long = refl; noted = λ e m. absurd (true≢false (sym m)); others = λ e m. refl }
-
 -- one edge more
 pub note-more : (done : List ℕ) (x b : ℕ) (old new : List ℕ) → IsBlockNoted done b old new → x < length old → IsBlockNoted (done ++ x ∷ []) b old (set new x b)
 note-more done x b old new h l = record {
@@ -45,10 +41,6 @@ note-more done x b old new h l = record {
 -- the edge at a place of the list
 pub note-next : (edges : List ℕ) (i b : ℕ) (old new : List ℕ) → i < length edges → IsBlockNoted (take i edges) b old new → get_or edges i 0 < length old → IsBlockNoted (take (i + 1) edges) b old (set new (get_or edges i 0) b)
 note-next edges i b old new l h m = subst (λ (d : List ℕ). IsBlockNoted d b old (set new (get_or edges i 0) b)) (sym (take_more edges i 0 l)) (note-more (take i edges) (get_or edges i 0) b old new h m)
-
--- no block is in the table yet
-pub no-blocks : (m : ℕ) (blocks : List (List ℕ)) (table : List ℕ) → length table ≡ m → HasBlocks m blocks 0 table
-no-blocks m blocks table long = record { long = long; each = λ b e l k. absurd (omega (arith, l)) }
 
 module _ (g : Multigraph) (blocks : List (List ℕ)) (are : AreBlocks g blocks) where
   -- an edge is in one block only
@@ -95,10 +87,6 @@ of_block-yes table b edges x t = filter-append (λ e. slice_index table e == b) 
 -- or of another
 of_block-no : (table : List ℕ) (b : ℕ) (edges : List ℕ) (x : ℕ) → (slice_index table x == b) ≡ false → of_block table b (edges ++ x ∷ []) ≡ of_block table b edges
 of_block-no table b edges x f = filter-append (λ e. slice_index table e == b) edges (x ∷ []) ∙ ap (λ (c : Bool). of_block table b edges ++ cond c (x ∷ []) []) f ∙ append-nil (of_block table b edges)
-
--- where nothing waits
-pub none-waits : (table : List ℕ) (total : ℕ) (waiting : List (List ℕ)) → length waiting ≡ total → ((b : ℕ) → b < total → slice_index_or waiting b [] ≡ []) → AreWaiting table [] total waiting
-none-waits table total waiting c h = record { counted = c; each = h }
 
 -- one edge more waits
 waits-more : (table edges : List ℕ) (total x : ℕ) (waiting : List (List ℕ)) → AreWaiting table edges total waiting → slice_index table x < total → AreWaiting table (edges ++ x ∷ []) total (set waiting (slice_index table x) (get_or waiting (slice_index table x) [] ++ x ∷ []))
@@ -158,25 +146,6 @@ some-from [] h = absurd (h refl)
 some-from (e ∷ edges) h = refl
 
 module _ (table edges : List ℕ) (v total : ℕ) (before : List (List (ℕ × List ℕ))) where
-  -- no edge was moved yet
-  pub none-moved : (waiting : List (List ℕ)) → length before ≡ total → AreWaiting table edges total waiting → AreMoved table edges [] v total before before waiting
-  none-moved waiting c h = record {
-    waiting_each = h.counted;
-    lists_each = c;
-    moved = λ b l t. absurd (true≢false (sym t));
-    left = λ b l f. (h.each b l, refl);
-  }
-
-  -- what is above the lists so far
-  pub moved-above : (done : List ℕ) (x : ℕ) (lists : List (List (ℕ × List ℕ))) (waiting : List (List ℕ)) → AreMoved table edges done v total before lists waiting → ((b : ℕ) → b < total → IsAbove (slice_index_or before b []) v)
-      → slice_index table x < total → has_some (slice_index_or waiting (slice_index table x) []) ≡ true → IsAbove (slice_index_or lists (slice_index table x) []) v
-  moved-above done x lists waiting h above l t =
-      let y = slice_index table x in
-      elim (cases_Bool (has_some (of_block table y done))) [
-        | inl a ↦ absurd (both_ways (has_some (slice_index_or waiting y [])) (ap has_some (h.moved y l a).0) t)
-        | inr a ↦ subst (λ (e : List (ℕ × List ℕ)). IsAbove e v) (sym (h.left y l a).1) (above y l)
-      ]
-
   -- one edge more: its block's edges are moved, if they were not before
   pub moved-more : (done : List ℕ) (x : ℕ) (lists : List (List (ℕ × List ℕ))) (waiting : List (List ℕ)) → AreMoved table edges done v total before lists waiting → slice_index table x < total
       → AreMoved table edges (done ++ x ∷ []) v total before
@@ -222,16 +191,6 @@ module _ (table edges : List ℕ) (v total : ℕ) (before : List (List (ℕ × L
       (moved-more (take i edges) x lists waiting h m)
 
   module _ (lists : List (List (ℕ × List ℕ))) (waiting : List (List ℕ)) (h : AreMoved table edges edges v total before lists waiting) where
-    -- at the end nothing waits
-    pub all-moved : AreWaiting table [] total waiting
-    all-moved = record {
-      counted = h.waiting_each;
-      each = λ b l. elim (cases_Bool (has_some (of_block table b edges))) [
-        | inl t ↦ (h.moved b l t).0
-        | inr f ↦ (h.left b l f).0 ∙ none-nil (of_block table b edges) f
-      ];
-    }
-
     -- and each block has its entry
     pub all-entered : AreEntered table edges v total before lists
     all-entered = record {
@@ -270,10 +229,6 @@ module _ (table : List ℕ) (starts : List (List ℕ)) where
       let is : (entry (gathered table starts b n) (length (gathered table starts b n) - 1)).0 ≡ get_or vertices (length (gathered table starts b n) - 1) 0 =
       ap (λ (x : ℕ × List ℕ). x.0) (get_or-map (entry_for b) vertices (length (gathered table starts b n) - 1) 0 (0, []) last) in
       omega (arith, is, (filter_below-at (meets b) n (length (gathered table starts b n) - 1) 0 last).0)
-
-  -- no vertex yet
-  pub gathered-none : (total : ℕ) (lists : List (List (ℕ × List ℕ))) → length lists ≡ total → ((b : ℕ) → b < total → slice_index_or lists b [] ≡ []) → AreGathered table starts 0 total lists
-  gathered-none total lists c h = record { counted = c; each = h }
 
   -- one more
   pub gathered-next : (n total : ℕ) (before lists : List (List (ℕ × List ℕ))) → AreGathered table starts n total before → AreEntered table (slice_index_or starts n []) n total before lists → AreGathered table starts (n + 1) total lists

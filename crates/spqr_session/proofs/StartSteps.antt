@@ -29,27 +29,6 @@ use Rattle.spqr_session.proofs.StartFaults.{started-not_bad}
 -- ---- one block
 
 module _ (part : GraphPart) (entries : List (ℕ × List ℕ)) (p q : BlockState) (is : IsEmbedded part (Plane p)) (right : IsBlockState q) (rest : q ≡ record p { rotation = q.rotation; choices = q.choices }) where
-  -- a block in the plane is right after lists were taken
-  pub taken-embedded : IsEmbedded part (Plane q)
-  taken-embedded = replaced-right part (Plane p) q is right (ap (λ (x : BlockState). x.graph) rest ∙ is.graph) (ap (λ (x : BlockState). x.tree) rest)
-
-  pub taken-view : IsGiven part entries q.rotation → IsBlockTaken entries (block_view part (Plane p)) (block_view part (Plane q))
-  taken-view given = record {
-    tree = λ i. record { part = part; nodes = (ap (λ (x : BlockState). x.tree) rest) i };
-    certificate = refl;
-    right = taken-embedded.entry;
-    entry = (given, ap (λ (x : BlockState). x.locks) rest);
-  }
-
--- a block that is not planar stays
-pub not-taken : (part : GraphPart) (entries : List (ℕ × List ℕ)) (o : Outcome) → (block_view part o).entry ≡ None → IsEmbedded part o → IsBlockTaken entries (block_view part o) (block_view part o)
-not-taken part entries o none is = record {
-  tree = refl;
-  certificate = refl;
-  right = is.entry;
-  entry = subst (λ (x : Option Embedding). IsEntryTaken (block_view part o).tree.part entries x x) (sym none) refl;
-}
-
 -- what the block says of a refusal
 pub refused-view : (part : GraphPart) (entries : List (ℕ × List ℕ)) (p : BlockState) (fault : TakeFault) → IsTakeRefusal p part entries fault → IsBlockRefusal entries (block_view part (Plane p)) fault
 refused-view part entries p (BadRotation v) h = h
@@ -104,15 +83,6 @@ start-arranges named lists n e = subst (λ (o : Option (List (List ℕ))). IfSom
 module _ (named : NamedGraph) (structure : BlockStructure) (is : IsBlockStructure named.graph structure) (lists : List (List ℕ)) (told : named.start ≡ Some lists) where
   abbrev block : ℕ → List ℕ
   block b = block_at structure.blocks b
-
-  -- none is at the start of the file before the first
-  pub none-started : (views : List BlockView) → AreStartBlocks None named.graph structure.blocks (length structure.blocks) views → AreStartedBelow lists named.graph structure.blocks 0 views
-  none-started views h = record { one_each = h.one_each; started = λ b l m. absurd (omega (arith, l)); others = λ b l m. h.each b m }
-
-  -- all are after the last
-  pub all-started : (views : List BlockView) → AreStartedBelow lists named.graph structure.blocks (length structure.blocks) views → AreStartBlocks named.start named.graph structure.blocks (length structure.blocks) views
-  all-started views h =
-      subst (λ (s : Option (List (List ℕ))). AreStartBlocks s named.graph structure.blocks (length structure.blocks) views) (sym told) (record { one_each = h.one_each; each = λ b l. h.started b l l })
 
   module _ (n : ℕ) (views : List BlockView) (below : AreStartedBelow lists named.graph structure.blocks n views) (l : n < length structure.blocks) where
     abbrev next : BlockView

@@ -50,36 +50,6 @@ first-more old now new block i long l h e = record {
 
 -- ---- changes
 
-pub changes-more : (vertices : List ℕ) (lists : List (Option (List ℕ))) (wanted : ℕ → Option (List ℕ)) (n v : ℕ) (now next : Option (List ℕ)) (old new : List CutChange) → old ≡ changes_below vertices lists wanted n → v ≡ slice_index vertices n → now ≡ slice_index_or lists v None
-    → next ≡ wanted n → new ≡ old ++ change_kept v now next → new ≡ changes_below vertices lists wanted (n + 1)
-changes-more vertices lists wanted n v now next old new h at a b e =
-    e ∙ (λ i. h i ++ change_kept (at i) ((a ∙ ap (λ z. slice_index_or lists z None) at) i) (b i)) ∙ ap (changes_below vertices lists wanted) (sym (add-one n))
-
--- what a test of two lists tells
-pub list-kept_same : (first list : List ℕ) → list ≡ first → list_kept first list ≡ None
-list-kept_same first list e = cond-true (same_list list first) None (Some list) (equal-same list first e)
-
-pub list-kept_other : (first list : List ℕ) → (list ≡ first → ⊥) → list_kept first list ≡ Some list
-list-kept_other first list n = elim (cases_Bool (same_list list first)) [
-  | inl t ↦ absurd (n (same-equal list first t))
-  | inr f ↦ cond-false (same_list list first) None (Some list) f
-]
-
-pub same-list_is : (l m : List ℕ) → l ≡ m → same_list l m ≡ true
-same-list_is l m e = equal-same l m e
-
-pub same-list_not : (l m : List ℕ) → (l ≡ m → ⊥) → same_list l m ≡ false
-same-list_not l m n = elim (cases_Bool (same_list l m)) [
-  | inl t ↦ absurd (n (same-equal l m t))
-  | inr f ↦ f
-]
-
-pub change-none : (v : ℕ) (now wanted : Option (List ℕ)) → same_kept now wanted ≡ true → change_kept v now wanted ≡ []
-change-none v now wanted t = cond-true (same_kept now wanted) [] (record { vertex = v; before = now; after = wanted } ∷ []) t
-
-pub change-one : (v : ℕ) (now wanted : Option (List ℕ)) → same_kept now wanted ≡ false → change_kept v now wanted ≡ record { vertex = v; before = now; after = wanted } ∷ []
-change-one v now wanted f = cond-false (same_kept now wanted) [] (record { vertex = v; before = now; after = wanted } ∷ []) f
-
 -- ---- moves
 
 pub pairs-more : (moves : ℕ → List Move) (front : List ℕ) (b : ℕ) (old new : List (ℕ × Move)) → old ≡ pairs_of moves front → new ≡ old ++ map (λ (m : Move). (b, m)) (moves b) → new ≡ pairs_of moves (front ++ b ∷ [])

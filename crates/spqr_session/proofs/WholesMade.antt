@@ -58,13 +58,6 @@ module _ (view : BlockView) (o : Outcome) (seen : block_view view.tree.part o �
         plane = λ x h. absurd (let both : None ≡ Some x = ap (λ (v : BlockView). v.entry) at ∙ h in cc);
       }
 
-  -- a block has a certificate exactly where it is not in the plane
-  pub plane-lacks : (p : BlockState) → o ≡ Plane p → lacks_certificate view.certificate ≡ true
-  plane-lacks p e = sym (ap (λ (v : BlockView). lacks_certificate v.certificate) (ap (block_view view.tree.part) (sym e) ∙ seen))
-
-  pub not-lacks : (g : Multigraph) (t : List Node) (s : Subdivision) → o ≡ Not g t s → lacks_certificate view.certificate ≡ false
-  not-lacks g t s e = sym (ap (λ (v : BlockView). lacks_certificate v.certificate) (ap (block_view view.tree.part) (sym e) ∙ seen))
-
 -- none yet
 pub members-none : (views : List BlockView) (all : List Member) → all ≡ [] → AreMembersOf views 0 all
 members-none views all e = record { one_each = ap (λ (l : List Member). length l) e; each = λ b l. absurd (omega (arith, l)) }

@@ -55,10 +55,6 @@ pub record AreThen (k : Component) (block : ℕ → BlockInPlane) (test : ℕ �
   pub done : (j : ℕ) → j < n → slice_index_or after.lists j [] ≡ list_then k block test lists j
   pub others : (j : ℕ) → n ≤ j → slice_index_or after.lists j [] ≡ slice_index_or lists j []
 
-pub then-begins : (block : ℕ → BlockInPlane) (test : ℕ → Bool) (cuts after : CutState) → length cuts.lists ≡ length cuts.component.cuts → after ≡ cuts → AreThen cuts.component block test cuts.lists after 0
-then-begins block test cuts after each e = subst (λ (z : CutState). AreThen cuts.component block test cuts.lists z 0) (sym e)
-    (record { component = refl; count = each; done = λ j l. absurd (omega (arith, l)); others = λ j l. refl })
-
 -- one more, which is set to its first arrangement
 pub then-first : (k : Component) (block : ℕ → BlockInPlane) (test : ℕ → Bool) (lists : List (List ℕ)) (after new : CutState) (n : ℕ) → n < length k.cuts → has_block_at k test (slice_index k.cuts n) ≡ true → AreThen k block test lists after n
     → new ≡ record after { lists = slice_set after.lists n (first_arrangement (block_with after.component) (block_order block (slice_index after.component.cuts n)) (edges_around after.component (slice_index after.component.cuts n))) }

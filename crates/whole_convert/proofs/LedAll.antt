@@ -24,10 +24,6 @@ use Rattle.whole_convert.proofs.PartOf.{IsPartOf, parts-plane}
 use Rattle.whole_convert.proofs.Stages.{with-rotation}
 use Rattle.whole_convert.proofs.Takes.{led-kept}
 
--- no block yet
-pub led-begins : (k : Component) (all : List Member) (q : List (List ℕ)) → AreLedBelow k all q all 0
-led-begins k all q = record { count = refl; led = λ j l. absurd (omega (arith, l)); others = λ b n. refl }
-
 -- one block more
 pub led-more : (k : Component) (all new : List Member) (q : List (List ℕ)) (j : ℕ) (m : Member) → Rises k.blocks → j < length k.blocks → slice_index k.blocks j < length all
     → AreLedBelow k all q new j → IsLedTo (member_at all (slice_index k.blocks j)) (block_part k (member_at all (slice_index k.blocks j)).part q) m → AreLedBelow k all q (slice_set new (slice_index k.blocks j) m) (j + 1)
@@ -97,7 +93,3 @@ module _ (k : Component) (all new : List Member) (q : List (List ℕ)) (is : IsC
         let one : w.before ≡ p.0 = one-value (member_at all b).plane w.before p.0 w.old_is p.1 in
         (w.after, w.new_is, w.rest.graph ∙ (ap (λ (z : BlockState). z.graph) one ∙ (p.2 ∙ ap (λ (z : GraphPart). z.graph) (sym w.part))));
   }
-
-  -- each block with the one that it was
-  pub led-alike : (j : ℕ) → j < length k.blocks → AreAlike (member_at all (slice_index k.blocks j)) (member_at new (slice_index k.blocks j))
-  led-alike j l = let w = h.led j l in record { before = w.before; after = w.after; old_is = w.old_is; new_is = w.new_is; graph = w.rest.graph; tree = w.rest.tree }

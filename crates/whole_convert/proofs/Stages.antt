@@ -26,9 +26,6 @@ use Rattle.whole_convert.specs.Between.{blocks_to}
 abbrev pub with-rotation : BlockInPlane → List (List ℕ) → BlockInPlane
 with-rotation a r = record { part = a.part; nodes = a.nodes; rotation = r; locks = a.locks }
 
-pub with-own : (a : BlockInPlane) → with-rotation a a.rotation ≡ a
-with-own a = refl
-
 -- b is the block a with another plane rotation system
 pub record IsTurnedBlock (a b : BlockInPlane) : Type 0 where
   pub part : b.part ≡ a.part

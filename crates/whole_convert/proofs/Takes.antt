@@ -43,10 +43,6 @@ no-genus part entries r v e f numbered one given plane n =
 pub block-connected : (s : BlockState) (g : Multigraph) → IsBlockState s → g ≡ s.graph → component_count g ≡ 1
 block-connected s g h e = subst (λ (z : Multigraph). component_count z ≡ 1) (sym e) (one-component s.graph h.block.graph h.block.block)
 
--- only the rotation system and the choices change
-pub rest-kept : (old new : BlockState) → new ≡ record old { rotation = new.rotation; choices = new.choices } → KeepsRest old new
-rest-kept old new e = record { graph = ap (λ (z : BlockState). z.graph) e; tree = ap (λ (z : BlockState). z.tree) e; locks = ap (λ (z : BlockState). z.locks) e }
-
 -- a block that has taken the lists is led to the rotation system that they give
 pub taken-led : (old new : Member) (before after : BlockState) (entries : List (ℕ × List ℕ)) (r : List (List ℕ)) → old.plane ≡ Some before → new.plane ≡ Some after → new.part ≡ old.part → IsNumbered old.part
     → IsGiven old.part entries r → IsTaken old.part entries before after → IsLedTo old r new

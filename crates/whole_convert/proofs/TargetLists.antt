@@ -18,9 +18,6 @@ pub record AreTargetTo (old : CutState) (q : List (List ℕ)) (new : CutState) (
   pub count : length new.lists ≡ length old.lists
   pub done : (j : ℕ) → j < n → slice_index_or new.lists j [] ≡ outer_at old.component.part q (slice_index old.component.cuts j)
 
-pub target-begins : (old : CutState) (q : List (List ℕ)) → AreTargetTo old q old 0
-target-begins old q = record { component = refl; count = refl; done = λ j l. absurd (omega (arith, l)) }
-
 -- one more
 pub target-more : (old : CutState) (q : List (List ℕ)) (now new : CutState) (i v : ℕ) (order : List ℕ) → Rises old.component.cuts → length old.lists ≡ length old.component.cuts → i < length old.component.cuts → AreTargetTo old q now i
     → v ≡ slice_index old.component.cuts i → order ≡ outer_at old.component.part q v → new ≡ set_around now v order → AreTargetTo old q new (i + 1)

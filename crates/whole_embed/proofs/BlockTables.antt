@@ -34,10 +34,6 @@ noted-more edges b i old mid new h w n same is e l = subst (λ (z : List ℕ). s
         or-false false = refl
 
 module _ (g : Multigraph) (s : BlockStructure) (is : IsBlockStructure g s) (ok : IsGraph g) where
-  -- no block was noted yet
-  pub below-none : (table : List ℕ) → length table ≡ edge_count g → AreNotedBelow g s.blocks 0 table
-  below-none table l = record { each = l; is = λ e k h. absurd (omega (arith, h)) }
-
   -- one block more
   pub below-more : (b : ℕ) (old new : List ℕ) → b < length s.blocks → AreNotedBelow g s.blocks b old → AreNoted (block_at s.blocks b) b old new → length new ≡ length old → AreNotedBelow g s.blocks (b + 1) new
   below-more b old new l h n same = record {

@@ -47,11 +47,6 @@ precedes-forth a b m k q r h =
     subst (λ (z : GraphPart). Precedes b.nodes (block_part k z q) (block_part k z r)) (sym m.part)
     (subst (λ (z : List Node). Precedes z (block_part k a.part q) (block_part k a.part r)) (sym m.nodes) h)
 
-precedes-back : (a b : BlockInPlane) → IsMovedBlock a b → (k : Component) (q r : List (List ℕ)) → Precedes b.nodes (block_part k b.part q) (block_part k b.part r) → Precedes a.nodes (block_part k a.part q) (block_part k a.part r)
-precedes-back a b m k q r h =
-    subst (λ (z : List Node). Precedes z (block_part k a.part q) (block_part k a.part r)) m.nodes
-    (subst (λ (z : GraphPart). Precedes b.nodes (block_part k z q) (block_part k z r)) m.part h)
-
 same-forth : (a b : BlockInPlane) → IsMovedBlock a b → (k : Component) (q r : List (List ℕ)) → block_part k a.part q ≡ block_part k a.part r → block_part k b.part q ≡ block_part k b.part r
 same-forth a b m k q r h = subst (λ (z : GraphPart). block_part k z q ≡ block_part k z r) (sym m.part) h
 
@@ -113,13 +108,3 @@ module _ (k : Component) (old new : ℕ → BlockInPlane) (moved : AreMoved k ol
 -- a block that did not move
 pub unmoved : (a : BlockInPlane) → IsPlaneSystem a.part.graph a.rotation → IsMovedBlock a a
 unmoved a p = record { part = refl; nodes = refl; locks = refl; plane = p; keeps = λ j l y. refl }
-
--- one move after another
-pub moved-then : (a b c : BlockInPlane) → IsMovedBlock a b → IsMovedBlock b c → IsMovedBlock a c
-moved-then a b c m n = record {
-  part = n.part ∙ m.part;
-  nodes = n.nodes ∙ m.nodes;
-  locks = n.locks ∙ m.locks;
-  plane = subst (λ (z : GraphPart). IsPlaneSystem z.graph c.rotation) m.part n.plane;
-  keeps = λ j l y. subst (λ (t : List Node). KeepsChoices t (lock_at a.locks) b.rotation c.rotation) m.nodes (subst (λ (z : List Bool). KeepsChoices b.nodes (lock_at z) b.rotation c.rotation) m.locks n.keeps) j l y ∙ m.keeps j l y;
-}

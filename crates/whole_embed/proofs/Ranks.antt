@@ -48,28 +48,6 @@ pub record AreRanksTo (list numbers ranks : List ℕ) (n : ℕ) : Type 0 where
   pub each : length ranks ≡ n
   pub is : (p : ℕ) → p < n → (slice_index ranks p < length list) × (slice_index list (slice_index ranks p) ≡ slice_index numbers p)
 
-pub ranks-are : (list numbers ranks : List ℕ) → Rises list → length list ≤ length numbers → AreRanksTo list numbers ranks (length numbers) → AreRanks numbers ranks
-ranks-are list numbers ranks r short h = record {
-  each = h.each;
-  below = λ p l. omega (arith, (h.is p l).0, short);
-  same = λ p q lp lq. places-order list (slice_index ranks p) (slice_index ranks q) (slice_index numbers p) (slice_index numbers q) r (h.is p lp).0 (h.is q lq).0 (h.is p lp).1 (h.is q lq).1;
-}
-
 -- a number of the list is in it
 pub number-there : (numbers list : List ℕ) (i : ℕ) → ((x : ℕ) → Contains list x ↔ Contains numbers x) → i < length numbers → Contains list (slice_index numbers i)
 number-there numbers list i same l = (same (slice_index numbers i)).1 (Contains-get_or numbers i 0 l)
-
--- one rank more
-pub ranks-more : (list numbers old new : List ℕ) (n x : ℕ) → AreRanksTo list numbers old n → x < length list → slice_index list x ≡ slice_index numbers n → new ≡ old ++ x ∷ [] → AreRanksTo list numbers new (n + 1)
-ranks-more list numbers old new n x h l e is = subst (λ (z : List ℕ). AreRanksTo list numbers z (n + 1)) (sym is) (record {
-  each = length_push old x ∙ ap (λ (k : ℕ). k + 1) h.each;
-  is = λ p less. elim (cases_lt p n) [
-    | inl b ↦
-        let same : slice_index (old ++ x ∷ []) p ≡ slice_index old p = get_or_append_left old (x ∷ []) 0 p (omega (arith, b, h.each)) in
-        (subst (λ (z : ℕ). z < length list) (sym same) (h.is p b).0, ap (slice_index list) same ∙ (h.is p b).1)
-    | inr b ↦
-        let at : p ≡ n = omega (arith, less, b) in
-        let last : slice_index (old ++ x ∷ []) p ≡ x = get_or_push old x 0 p (omega (arith, at, h.each)) in
-        (subst (λ (z : ℕ). z < length list) (sym last) l, ap (slice_index list) last ∙ (e ∙ ap (slice_index numbers) (sym at)))
-  ];
-})

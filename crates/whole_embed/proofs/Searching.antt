@@ -34,31 +34,9 @@ missed-place l x i r h =
     let p : IsPlace l x None = place-missed l x i r h in
     false_from_ne_true (is_member x l) (λ m. p.none.0 refl (place_of l x) (place-below l x m) (place-holds l x m))
 
--- one member more that passes or fails a test
-pub filter-more : (p : ℕ → Bool) (l : List ℕ) (i : ℕ) → i < length l → filter p (take (i + 1) l) ≡ cond (p (slice_index l i)) (filter p (take i l) ++ slice_index l i ∷ []) (filter p (take i l))
-filter-more p l i h = ap (filter p) (take_more l i 0 h) ∙ last (take i l) (slice_index l i)
-  where
-    last : (a : List ℕ) (x : ℕ) → filter p (a ++ x ∷ []) ≡ cond (p x) (filter p a ++ x ∷ []) (filter p a)
-    last [] x = elim (cases_Bool (p x)) [
-      | inl t ↦ filter-yes p x [] t ∙ sym (cond-true (p x) (x ∷ []) [] t)
-      | inr f ↦ filter-no p x [] f ∙ sym (cond-false (p x) (x ∷ []) [] f)
-    ]
-    last (y ∷ a) x = elim (cases_Bool (p y)) [
-      | inl t ↦ filter-yes p y (a ++ x ∷ []) t ∙ (ap (λ (z : List ℕ). y ∷ z) (last a x) ∙ (out (p x) y (filter p a ++ x ∷ []) (filter p a) ∙ ap (λ (z : List ℕ). cond (p x) (z ++ x ∷ []) z) (sym (filter-yes p y a t))))
-      | inr f ↦ filter-no p y (a ++ x ∷ []) f ∙ (last a x ∙ ap (λ (z : List ℕ). cond (p x) (z ++ x ∷ []) z) (sym (filter-no p y a f)))
-    ]
-      where
-        out : (b : Bool) (y : ℕ) (u v : List ℕ) → y ∷ cond b u v ≡ cond b (y ∷ u) (y ∷ v)
-        out true y u v = refl
-        out false y u v = refl
-
 -- one number more that passes or fails a test, by what a push gave
 pub noted-number : (p : ℕ → Bool) (n : ℕ) (old new : List ℕ) (wanted : Bool) → old ≡ filter p (numbers_below n) → wanted ≡ p n → new ≡ cond wanted (old ++ n ∷ []) old → new ≡ filter p (numbers_below (n + 1))
 noted-number p n old new wanted e w h = h ∙ (ap (λ (z : List ℕ). cond wanted (z ++ n ∷ []) z) e ∙ (ap (λ (b : Bool). cond b (filter p (numbers_below n) ++ n ∷ []) (filter p (numbers_below n))) w ∙ (elim (cases_Bool (p n)) [
   | inl t ↦ cond-true (p n) (filter p (numbers_below n) ++ n ∷ []) (filter p (numbers_below n)) t ∙ sym (filter_below-yes p n t)
   | inr f ↦ cond-false (p n) (filter p (numbers_below n) ++ n ∷ []) (filter p (numbers_below n)) f ∙ sym (filter_below-no p n f)
 ])))
-
--- the same of the members of a list
-pub noted-member : (p : ℕ → Bool) (l : List ℕ) (i : ℕ) (old new : List ℕ) (wanted : Bool) → i < length l → old ≡ filter p (take i l) → wanted ≡ p (slice_index l i) → new ≡ cond wanted (old ++ slice_index l i ∷ []) old → new ≡ filter p (take (i + 1) l)
-noted-member p l i old new wanted k e w h = h ∙ (ap (λ (z : List ℕ). cond wanted (z ++ slice_index l i ∷ []) z) e ∙ (ap (λ (b : Bool). cond b (filter p (take i l) ++ slice_index l i ∷ []) (filter p (take i l))) w ∙ sym (filter-more p l i k)))

@@ -6,7 +6,7 @@ use Rattle.skel_embed.specs.Flat.{AreFlat}
 use Rattle.skel_embed.specs.Outcomes.{choices_in}
 use Rattle.skel_embed.proofs.Flat.{flat-more}
 use Rattle.skel_embed.proofs.KeptKeys.{choices-in_at, choices-in_many}
-use Rattle.skel_embed.proofs.blocks_in_plane.choices_of.Goals as goal
+use Rattle.skel_embed.proofs.blocks_in_plane.choices_in.Goals as goal
 
 pub loop-k-preserved : goal.loop-k-preserved
 loop-k-preserved c =

@@ -4,7 +4,7 @@ use Rattle.std.proofs.lemmas.List.{take_all}
 use Rattle.skel_embed.specs.Block.{choices_by}
 use Rattle.skel_embed.proofs.Flat.{concat-next}
 use Rattle.skel_embed.proofs.KeptKeys.{choices-by_at, choices-by_many}
-use Rattle.skel_embed.proofs.choosing.choices_of.Goals as goal
+use Rattle.skel_embed.proofs.choosing.choices_by_walks.Goals as goal
 
 pub loop-k-preserved : goal.loop-k-preserved
 loop-k-preserved c =
