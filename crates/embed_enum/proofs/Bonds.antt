@@ -9,7 +9,7 @@ use Rattle.permutations.specs.Cyclic.{first_or}
 use Rattle.permutations.specs.Members.{is_member, is_distinct}
 use Rattle.rotations.specs.Rotation.{IsCyclicOrder}
 use Rattle.permutations.proofs.Members.{member-head, member-tail, distinct-append_apart}
-use Rattle.permutations.proofs.Arrangements.{permutation-member, member-at}
+use Rattle.permutations.proofs.Arrangements.{member-at}
 use Rattle.pair_split.specs.declared.components.Item.{Item}
 use Rattle.pair_split.specs.declared.components.Kind.{Kind}
 use Rattle.pair_split.specs.declared.components.Kind.TheVariants.{P}

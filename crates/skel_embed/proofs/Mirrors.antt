@@ -2,8 +2,8 @@
 use Rattle.std.proofs.Common.{◌≡◌, ℕ, ◌<◌, ◌≤◌, true, List, [], ◌∷◌, length, get_or, reverse, sym, ap, ◌∙◌, subst, arith}
 use Rattle.permutations.specs.Cyclic.{first_or, successor, predecessor}
 use Rattle.permutations.specs.Members.{is_member}
-use Rattle.permutations.proofs.Members.{member-reverse, distinct-reverse}
-use Rattle.permutations.proofs.NormalForm.{from_least-member, from_least-predecessor, mirror-successor}
+use Rattle.permutations.proofs.Members.{distinct-reverse}
+use Rattle.permutations.proofs.NormalForm.{from_least-predecessor, mirror-successor}
 use Rattle.permutations.proofs.Successor.{predecessor-reverse}
 use Rattle.multigraph.specs.Graph.{Multigraph, incident_edges, IsGraph}
 use Rattle.graph_theory.specs.Triconnected.{IsTriconnected}

@@ -1,7 +1,7 @@
 -- The keys of the runs around a vertex, read off the edges before which there is another key.
-use Rattle.std.proofs.Common.{◌≡◌, ◌≢◌, ℕ, ◌<◌, ◌⊎◌, inl, inr, Bool, true, false, not, List, [], ◌∷◌, ◌++◌, length, map, filter, reverse, refl, sym, ap, ◌∙◌, subst, arith, append_assoc, All}
+use Rattle.std.proofs.Common.{◌≡◌, ◌≢◌, ℕ, ◌<◌, ◌⊎◌, inl, inr, Bool, true, false, not, List, [], ◌∷◌, ◌++◌, length, map, filter, refl, sym, ap, ◌∙◌, subst, arith, append_assoc, All}
 use Rattle.std.proofs.lemmas.Bool.{ne_eqb, eq-eqb, true≢false}
-use Rattle.std.proofs.lemmas.List.{length-map, reverse-reverse}
+use Rattle.std.proofs.lemmas.List.{length-map}
 use Rattle.std.proofs.lemmas.List.Elements.{All-head, All-tail, All-cons, All-nil, filter-append}
 use Rattle.std.proofs.lemmas.List.Sorted.{length_permutation}
 use Rattle.permutations.specs.Cyclic.{first_or, predecessor, from_least, turned, IsTurn}
@@ -9,11 +9,11 @@ use Rattle.permutations.specs.Members.{is_member, is_distinct}
 use Rattle.permutations.specs.Runs.{joined, group_keys, IsGroup, InRuns}
 use Rattle.permutations.proofs.Arrangements.{length-from_members}
 use Rattle.permutations.proofs.Filter.{filter-all, filter-none}
-use Rattle.permutations.proofs.Members.{member-head, member-cases, member-append_right, member-tail, distinct-reverse, CutAt, cut_at}
+use Rattle.permutations.proofs.Members.{member-head, member-cases, member-append_right, member-tail, CutAt, cut_at}
 use Rattle.permutations.proofs.NormalForm.{from_least-same, from_least-turn, from_least-member, from_least-first_or, least-same}
 use Rattle.permutations.proofs.Runs.{first-of, other-groups, runs-turn, runs-picked}
 use Rattle.permutations.proofs.Successor.{predecessor-successor}
-use Rattle.permutations.proofs.Turned.{IsTurn-sym, IsTurn-distinct, IsTurn-map, IsTurn-member, IsTurn-length}
+use Rattle.permutations.proofs.Turned.{IsTurn-sym, IsTurn-map, IsTurn-member, IsTurn-length}
 use Rattle.multigraph.specs.Graph.{Multigraph}
 use Rattle.rotations.specs.Rotation.{order_at}
 use Rattle.faces.proofs.DartLemmas.{order-distinct}
@@ -22,16 +22,16 @@ use Rattle.pair_split.specs.Split.{items_of, piece_ends}
 use Rattle.pair_split.specs.declared.components.Kind.{Kind}
 use Rattle.pair_split.specs.declared.components.Kind.TheVariants.{S, P, R, B}
 use Rattle.pair_split.proofs.NodeParts.{node-pieces}
-use Rattle.skeletons.specs.Items.{node_keys, keys_at, has_vertex, least_vertex, greatest_vertex, item_key, IsBlockTree}
+use Rattle.skeletons.specs.Items.{node_keys, keys_at, has_vertex, least_vertex, item_key, IsBlockTree}
 use Rattle.faces.specs.Euler.{IsPlaneSystem}
 use Rattle.skeletons.specs.Round.{keys_round}
 use Rattle.skeletons.specs.Choices.{choice_of_kind, choice}
 use Rattle.skeletons.proofs.KeyRuns.{met-runs}
-use Rattle.skeletons.proofs.Vertices.{least-has, greatest-has, vertex-in}
-use Rattle.skeletons.proofs.Moved.{runs-keys, mirror-normal}
+use Rattle.skeletons.proofs.Vertices.{least-has, vertex-in}
+use Rattle.skeletons.proofs.Moved.{runs-keys}
 use Rattle.skeleton_runs.proofs.Contiguous.{plane-contiguous}
 use Rattle.skeleton_choices.proofs.Plane.{choice-round, of-kind}
-use Rattle.skeleton_choices.proofs.Told.{rigid-three, bond-round}
+use Rattle.skeleton_choices.proofs.Told.{rigid-three}
 use Rattle.skeleton_choices.proofs.Listed.{choice-normal}
 use Rattle.skel_embed.specs.Taken.{begins_run, runs_met}
 use Rattle.skel_embed.proofs.RunSteps.{Ends, some-end, end-member, next-in, before-first}

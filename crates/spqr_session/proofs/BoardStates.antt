@@ -1,5 +1,5 @@
 -- The state of a board, and what locks, undo and redo make of it.
-use Rattle.std.proofs.Common.{◌≡◌, ℕ, ◌<◌, Bool, true, false, not, List, [], ◌∷◌, length, map, None, Some, refl, sym, ap, ◌∙◌, subst, arith}
+use Rattle.std.proofs.Common.{◌≡◌, ℕ, ◌<◌, Bool, true, false, not, List, [], ◌∷◌, length, map, None, Some, refl, sym, ◌∙◌, subst, arith}
 use Rattle.std.proofs.lemmas.Bool.{true≢false}
 use Rattle.std.proofs.lemmas.List.{length-map}
 use Rattle.spqr_script.specs.Answers.Change.{ok_text}
@@ -17,9 +17,9 @@ use Rattle.spqr_session.specs.Commands.History.{is_none, undo_ladder, redo_ladde
 use Rattle.spqr_session.specs.Commands.Lock.{with_lock, LocksNode, LockStep}
 use Rattle.spqr_session.specs.Scene.{setting_on}
 use Rattle.spqr_session.specs.declared.scene.Scene.{Scene}
-use Rattle.spqr_session.specs.Board.{BoardView, board_state, kept_with_entry, GoesTo, IsUndone, IsRedone, StandsAt, state_on, BelongTogether}
+use Rattle.spqr_session.specs.Board.{BoardView, board_state, kept_with_entry, GoesTo, StandsAt, state_on, BelongTogether}
 use Rattle.spqr_session.proofs.Views.{entries-at, trees-at}
-use Rattle.spqr_session.proofs.Ladders.{rung-hit, rung-missed, refused-first, carried-out}
+use Rattle.spqr_session.proofs.Ladders.{rung-hit, refused-first, carried-out}
 use Rattle.spqr_session.proofs.Changes.{NodeFacts, node-facts}
 use Rattle.spqr_session.proofs.Plans.{seen_state, lock-seen}
 

@@ -1,6 +1,6 @@
 -- The history on a board: a step back, a step forth, and a step more.
-use Rattle.std.proofs.Common.{◌≡◌, ℕ, suc, ◌+◌, ◌≤◌, List, Option, [], ◌∷◌, ◌++◌, length, map, slice_index_or, take, drop, reverse, sym, ap, ap₂, ◌∙◌, subst, arith, add-one, All}
-use Rattle.std.proofs.lemmas.List.{get_or_default, take_all, drop_all, reverse-append, length-append, length-take-le}
+use Rattle.std.proofs.Common.{◌≡◌, ℕ, suc, ◌+◌, ◌≤◌, List, Option, [], ◌∷◌, ◌++◌, length, map, take, drop, reverse, sym, ap, ap₂, ◌∙◌, subst, arith, add-one, All}
+use Rattle.std.proofs.lemmas.List.{take_all, drop_all, reverse-append, length-append, length-take-le}
 use Rattle.std.proofs.lemmas.List.Elements.{All-nil, All-cons, All-take, All-append}
 use Rattle.std.proofs.Math.Seq.{take-suc, drop-cons}
 use Rattle.undo_log.specs.History.{History as UndoHistory, Noted, IsStepAt, WentBack, WentOn}
@@ -9,7 +9,7 @@ use Rattle.spqr_session.specs.Trees.{BlockTree}
 use Rattle.spqr_session.specs.Kept.{Kept}
 use Rattle.spqr_session.specs.Embedded.{BlockView, view_tree}
 use Rattle.spqr_session.specs.History.{walk, IsBetween, redone, undone, lists_before, lists_after, steps_before, steps_after, IsStepOf, IsHistory}
-use Rattle.spqr_session.specs.Board.{kept_on, board_view, HavePlaces, IsBoard, IsCarried, GoesTo, LeadsTo, IsUndone, IsRedone}
+use Rattle.spqr_session.specs.Board.{kept_on, board_view, HavePlaces, IsBoard, IsCarried, GoesTo, LeadsTo}
 use Rattle.spqr_session.proofs.ListsSet.{set-length}
 use Rattle.spqr_session.proofs.Walks.{step-back, step-forth, step-new, walk-new}
 

@@ -1,19 +1,19 @@
 -- Components of a setting: with the blocks of a family they are components in the plane; their vertices, and the edges around these.
-use Rattle.std.proofs.Common.{◌≡◌, ℕ, zero, suc, ◌+◌, ◌<◌, Bool, true, false, List, [], ◌∷◌, length, map, get_or, slice_index, slice_index_or, Option, None, Some, inl, inr, refl, sym, ap, ◌∙◌, subst, arith, Contains}
-use Rattle.std.proofs.lemmas.Bool.{cases_Bool, cases_eq, cases_lt, true≢false, cond-true, cond-false}
-use Rattle.std.proofs.lemmas.List.{get_or-map, length-map}
+use Rattle.std.proofs.Common.{◌≡◌, ℕ, zero, suc, ◌+◌, ◌<◌, Bool, true, false, List, ◌∷◌, length, slice_index, slice_index_or, Option, None, Some, inl, inr, refl, sym, ap, ◌∙◌, subst, arith}
+use Rattle.std.proofs.lemmas.Bool.{cases_Bool, cases_eq, true≢false, cond-true, cond-false}
+use Rattle.std.proofs.lemmas.List.{get_or-map}
 use Rattle.permutations.specs.Count.{count}
-use Rattle.permutations.specs.Members.{is_member, place_of}
+use Rattle.permutations.specs.Members.{is_member}
 use Rattle.permutations.specs.Relation.{connected, leads, leader}
 use Rattle.permutations.proofs.Leaders.{leader-related, leader-le, leader-leads}
 use Rattle.permutations.proofs.Relation.{connected-equivalence}
-use Rattle.multigraph.specs.Graph.{Multigraph, incident_edges, numbers_below, is_end, IsGraph, IsWithinLimits}
+use Rattle.multigraph.specs.Graph.{Multigraph, incident_edges, numbers_below, IsGraph, IsWithinLimits}
 use Rattle.multigraph.specs.Part.{IsPart, Rises}
 use Rattle.multigraph.proofs.Below.{length-numbers_below, get_or-numbers_below}
 use Rattle.multigraph.proofs.Incident.{incident-rises}
 use Rattle.rotations.proofs.Membership.{incident-member, member-edge, member-end}
 use Rattle.graph_theory.proofs.Rising.{members-same}
-use Rattle.blocks.specs.Blocks.{BlockStructure, block_at, IsBlockStructure}
+use Rattle.blocks.specs.Blocks.{BlockStructure, block_at}
 use Rattle.gml_graph.proofs.Law.{sound_graph}
 use Rattle.arrangements.proofs.Lists.{all-passes}
 use Rattle.kuratowski.specs.declared.subdivision.Subdivision.{Subdivision}
@@ -22,13 +22,13 @@ use Rattle.skeletons.specs.Items as items
 use Rattle.whole_embed.specs.Component.{Component, BlockInPlane, component_vertices, component_of, AreInPlane, IsComponentInPlane}
 use Rattle.whole_embed.specs.Around.{edges_around}
 use Rattle.whole_embed.specs.Whole.{AreArranged}
-use Rattle.whole_embed.proofs.Components.{block-in, vertex-in, in-vertex, edge-in, edge-component, in-cut, cut-in}
+use Rattle.whole_embed.proofs.Components.{block-in, in-vertex, edge-in, edge-component, in-cut}
 use Rattle.whole_embed.proofs.ComponentBlocks.{numbered, subgraph}
 use Rattle.whole_embed.proofs.Outer.{at-member, member-edges_at, edges_at-rise}
 use Rattle.spqr_session.specs.Trees.{BlockTree, tree_at}
 use Rattle.spqr_session.specs.Certificates.{certificate_at}
 use Rattle.spqr_session.specs.Setting.{Setting, IsSetting}
-use Rattle.spqr_session.specs.State.{Embedding, Family, entry_at, arrangements_in, IsEntry, IsFamily, component_at, lacks_certificate, is_planar_component, block_with_entry, blocks_with, AreArrangements}
+use Rattle.spqr_session.specs.State.{Embedding, Family, arrangements_in, IsEntry, IsFamily, component_at, lacks_certificate, is_planar_component, block_with_entry, blocks_with, AreArrangements}
 use Rattle.spqr_session.specs.Kept.{Kept, lists_kept, arrangements_kept, family_of}
 use Rattle.spqr_session.specs.Components.{blocks_of}
 use Rattle.spqr_session.specs.Commands.Regroup.{component_number}

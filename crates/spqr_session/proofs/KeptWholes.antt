@@ -1,35 +1,31 @@
 -- What is kept of a component with another rotation system is kept of the family with it.
-use Rattle.std.proofs.Common.{◌≡◌, ◌≢◌, ℕ, ◌<◌, ◌≤◌, Bool, true, false, List, [], length, map, slice_index, slice_index_or, slice_set, Option, None, Some, inl, inr, refl, sym, ap, ◌∙◌, subst, arith}
+use Rattle.std.proofs.Common.{◌≡◌, ◌≢◌, ℕ, ◌<◌, ◌≤◌, true, false, List, [], length, map, slice_index, slice_index_or, slice_set, Option, None, Some, inl, inr, sym, ap, ◌∙◌, subst, arith}
 use Rattle.std.specs.Prelude.{if◌then◌else◌}
 use Rattle.std.proofs.Math.Path.{fun_ext}
-use Rattle.std.proofs.lemmas.Bool.{cases_Bool, cases_eq, cases_lt, true≢false, both_ways, cond-true, cond-false, false_from_ne_true}
-use Rattle.std.proofs.lemmas.List.{length-map, length-set, get_or-map, ext_get_or, get_or-set_same, get_or-set_other}
+use Rattle.std.proofs.lemmas.Bool.{cases_Bool, cases_eq, cond-true, cond-false, false_from_ne_true}
+use Rattle.std.proofs.lemmas.List.{length-map, length-set, ext_get_or, get_or-set_same, get_or-set_other}
 use Rattle.permutations.specs.Members.{is_member}
 use Rattle.permutations.proofs.Arrangements.{member-at}
-use Rattle.multigraph.specs.Graph.{Multigraph, numbers_below}
+use Rattle.multigraph.specs.Graph.{numbers_below}
 use Rattle.multigraph.specs.Part.{GraphPart}
 use Rattle.multigraph.proofs.Below.{length-numbers_below}
-use Rattle.pair_split.specs.Tutte.{Node}
 use Rattle.arrangements.specs.Arranged.{same_list, first_arrangement}
 use Rattle.arrangements.proofs.Lists.{same-equal}
-use Rattle.skel_embed.specs.Block.{BlockState}
 use Rattle.whole_embed.specs.declared.members.Member.{Member}
-use Rattle.whole_embed.specs.Component.{Component, BlockInPlane, IsComponentInPlane}
+use Rattle.whole_embed.specs.Component.{Component, BlockInPlane}
 use Rattle.whole_embed.specs.Around.{outer_at, edges_around, block_with, block_order}
 use Rattle.whole_embed.specs.Cuts.{in_plane, member_at, blocks_in, CutState, HavePlanes}
-use Rattle.whole_embed.specs.Whole.{AreArranged, block_part, whole_system, IsWholeMember, IsWholeList}
+use Rattle.whole_embed.specs.Whole.{block_part}
 use Rattle.whole_embed.specs.Walk.{KeepsBlocks, first_around}
-use Rattle.whole_embed.proofs.Assembling.{whole_is_member, whole_has_parts, whole_has_arrangements}
 use Rattle.whole_embed.proofs.Components.{vertex-in, cut-in}
 use Rattle.whole_embed.proofs.FrameFacts.{plane-part}
 use Rattle.whole_convert.specs.Between.{blocks_to}
 use Rattle.spqr_session.specs.Trees.{BlockTree, tree_at}
-use Rattle.spqr_session.specs.Certificates.{certificate_at}
 use Rattle.spqr_session.specs.Setting.{Setting, IsSetting}
-use Rattle.spqr_session.specs.State.{Embedding, Family, arrangements_in, IsEntry, component_at, is_planar_component, block_with_entry, blocks_with, IsFamily}
+use Rattle.spqr_session.specs.State.{Embedding, Family, component_at, is_planar_component, block_with_entry, blocks_with, IsFamily}
 use Rattle.spqr_session.specs.Kept.{Kept, list_or_first, lists_kept, arrangements_kept, family_of}
 use Rattle.spqr_session.specs.Embedded.{BlockView, view_tree, view_entry, view_at}
-use Rattle.spqr_session.specs.Components.{blocks_of, entry_with, entries_with, family_with}
+use Rattle.spqr_session.specs.Components.{entry_with, entries_with, family_with}
 use Rattle.spqr_session.specs.Board.{StandsAt, kept_on}
 use Rattle.spqr_session.specs.WholeSteps.{list_kept, FitsMember, KeepsWhole, wanted_for, IsWholeTarget}
 use Rattle.spqr_session.proofs.Views.{trees-at, entries-at}

@@ -9,8 +9,7 @@ use Rattle.blocks.proofs.BlockParts.{block-edges_in}
 use Rattle.kuratowski.specs.declared.subdivision.Subdivision.{Subdivision}
 use Rattle.gml_graph.specs.Named.{NamedGraph, ArrangeEdges, IsNamed}
 use Rattle.skel_embed.specs.Block.{BlockState, lock_at, IsBlockState}
-use Rattle.skel_embed.specs.Taken.{IsGiven, IsTakeRefusal}
-use Rattle.skel_embed.specs.declared.planes.Outcome.{Outcome}
+use Rattle.skel_embed.specs.Taken.{IsTakeRefusal}
 use Rattle.skel_embed.specs.declared.planes.Outcome.TheVariants.{Plane}
 use Rattle.skel_embed.specs.declared.taking.TakeFault.{TakeFault}
 use Rattle.skel_embed.specs.declared.taking.TakeFault.TheVariants.{BadRotation, NotGenusZero, Locked, Memory}
@@ -22,7 +21,6 @@ use Rattle.spqr_session.specs.Embedded.{BlockView, view_at, no_view, block_view,
 use Rattle.spqr_session.specs.Starting.{AreStartLists, AreStartedBelow, IsEntryTaken, IsBlockTaken, IsBlockRefusal, IsReadyFor, IsGenusRefusal}
 use Rattle.spqr_session.specs.declared.fault.StartFault.{StartFault}
 use Rattle.spqr_session.specs.declared.fault.StartFault.TheVariants.{StartGenus, Memory as OutOfMemory}
-use Rattle.spqr_session.proofs.BoardSteps.{replaced-right}
 use Rattle.spqr_session.proofs.StartLists.{starts-arranged}
 use Rattle.spqr_session.proofs.StartFaults.{started-not_bad}
 

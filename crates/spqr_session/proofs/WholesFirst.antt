@@ -1,11 +1,9 @@
 -- What the loops of a step over a component do: first arrangements, changes and moves, one more.
-use Rattle.std.proofs.Common.{◌≡◌, ℕ, zero, suc, ◌+◌, ◌<◌, ◌≤◌, inl, inr, Bool, true, false, not, List, [], ◌∷◌, ◌++◌, length, map, flat_map, take, slice_index, slice_index_or, slice_set, Option, None, Some, refl, sym, ap, ◌∙◌, subst, arith, add-one, append-nil}
+use Rattle.std.proofs.Common.{◌≡◌, ℕ, zero, suc, ◌+◌, ◌<◌, ◌≤◌, inl, inr, true, List, [], ◌∷◌, ◌++◌, length, map, slice_index, slice_index_or, slice_set, Option, None, Some, refl, sym, ap, ◌∙◌, subst, arith, append-nil}
 use Rattle.std.specs.Prelude.{if◌then◌else◌}
-use Rattle.std.proofs.lemmas.Bool.{cases_Bool, cases_eq, true≢false, cond-true, cond-false}
+use Rattle.std.proofs.lemmas.Bool.{cases_eq}
 use Rattle.std.proofs.lemmas.Grind.{flat_map-append}
 use Rattle.std.proofs.lemmas.List.{get_or_default, length-set, get_or-set_same, get_or-set_other}
-use Rattle.arrangements.specs.Arranged.{same_list}
-use Rattle.arrangements.proofs.Lists.{equal-same, same-equal}
 use Rattle.permutations.specs.Members.{is_member}
 use Rattle.faces.specs.Euler.{IsPlaneSystem}
 use Rattle.skeletons.specs.Moves.{Move, moves_between}
@@ -22,7 +20,7 @@ use Rattle.whole_embed.proofs.Assembly.{assembled}
 use Rattle.whole_embed.specs.Walk.{first_around}
 use Rattle.spqr_session.specs.Embedded.{BlockView, view_at, block_view, IsInPlane}
 use Rattle.spqr_session.specs.History.{as_pairs}
-use Rattle.spqr_session.specs.WholeSteps.{rotation_in, moves_forth, moves_back, pairs_of, list_kept, same_kept, change_kept, change_at, changes_below, wanted_in, FitsMember, LeadsToWhole, wanted_for}
+use Rattle.spqr_session.specs.WholeSteps.{rotation_in, moves_forth, moves_back, pairs_of, list_kept, change_kept, changes_below, wanted_in, FitsMember, LeadsToWhole, wanted_for}
 use Rattle.spqr_session.proofs.WholeSteps.{whole-leads}
 
 -- ---- first arrangements

@@ -1,13 +1,11 @@
 -- The blocks on the board as calls on components have them, and components with these and with the lists that are kept.
 use mathlib.Core.Path.{fun_ext}
-use Rattle.std.proofs.Common.{◌≡◌, ◌≢◌, ℕ, zero, suc, ◌+◌, ◌<◌, ◌≤◌, Bool, true, false, not, ◌&&◌, List, [], ◌∷◌, ◌++◌, length, map, get_or, slice_index, slice_index_or, slice_set, Option, None, Some, inl, inr, refl, sym, ap, ◌∙◌, subst, arith, length-append, eq-eqb, eqb-true}
+use Rattle.std.proofs.Common.{◌≡◌, ◌≢◌, ℕ, zero, suc, ◌+◌, ◌<◌, ◌≤◌, Bool, true, false, not, ◌&&◌, List, [], ◌∷◌, ◌++◌, length, map, slice_index, slice_index_or, slice_set, Option, None, Some, inl, inr, refl, sym, ap, ◌∙◌, subst, arith, length-append, eq-eqb, eqb-true}
 use Rattle.std.proofs.Math.Seq.{get_or-append_seam}
 use Rattle.std.proofs.lemmas.Bool.{cases_eq, cases_lt, true≢false, false_from_ne_true}
-use Rattle.std.proofs.lemmas.List.{get_or_append_left, get_or_past, length-map, length-set, get_or-set_same, get_or-set_other, get_or-map}
+use Rattle.std.proofs.lemmas.List.{get_or_append_left, get_or_past, length-map, length-set, get_or-set_same, get_or-set_other}
 use Rattle.permutations.specs.Members.{is_member, place_of}
-use Rattle.multigraph.specs.Graph.{numbers_below}
 use Rattle.multigraph.specs.Part.{GraphPart, Rises}
-use Rattle.multigraph.proofs.Below.{length-numbers_below, get_or-numbers_below}
 use Rattle.blocks.specs.Blocks.{block_at}
 use Rattle.arrangements.proofs.Lists.{all-passes, passes-all}
 use Rattle.pair_split.specs.Tutte.{Node}
@@ -25,13 +23,13 @@ use Rattle.whole_embed.specs.Whole.{AreArranged, whole_lists}
 use Rattle.spqr_script.specs.Answers.Whole.{whole_text}
 use Rattle.whole_embed.proofs.Outer.{place-rising}
 use Rattle.whole_embed.proofs.Components.{block-in, in-block}
-use Rattle.spqr_session.specs.Trees.{BlockTree, no_tree, tree_at}
+use Rattle.spqr_session.specs.Trees.{BlockTree, no_tree}
 use Rattle.spqr_session.specs.Certificates.{certificate_at}
 use Rattle.spqr_session.specs.Setting.{Setting, IsSetting}
-use Rattle.spqr_session.specs.State.{Embedding, IsFamily, component_at, lacks_certificate, is_planar_component, block_with_entry, blocks_with, first_lists}
-use Rattle.spqr_session.specs.Embedded.{BlockView, view_tree, view_entry, block_view, IsEmbedded, no_view, view_at}
+use Rattle.spqr_session.specs.State.{IsFamily, component_at, lacks_certificate, is_planar_component, block_with_entry, blocks_with}
+use Rattle.spqr_session.specs.Embedded.{BlockView, view_tree, view_entry, block_view, IsEmbedded, view_at}
 use Rattle.spqr_session.specs.Kept.{Kept, list_or_first, lists_kept, family_of}
-use Rattle.spqr_session.specs.Wholes.{IsMemberOf, AreMembersOf, AreEntries, ArePlanarBelow, HasBlocks, IsFirstComponent, IsPresentComponent, AreOrdersKept, set_if, AreSetTo, IsWholeTold}
+use Rattle.spqr_session.specs.Wholes.{IsMemberOf, AreMembersOf, AreEntries, ArePlanarBelow, IsFirstComponent, IsPresentComponent, AreOrdersKept, set_if, AreSetTo, IsWholeTold}
 use Rattle.spqr_session.proofs.Views.{trees-at}
 use Rattle.spqr_session.proofs.ComponentParts.{block-there, block-embedding, blocks-in_plane, component-in_plane, family-arranged, family-in_plane, kept-lists}
 use Rattle.spqr_session.proofs.KeptLists.{lists-are, lists-at, kept-is, kept-order}

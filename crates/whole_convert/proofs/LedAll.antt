@@ -19,7 +19,7 @@ use Rattle.whole_embed.proofs.FrameFacts.{one-value, plane-part}
 use Rattle.whole_embed.proofs.Moved.{IsMovedBlock, AreMoved, component-moved}
 use Rattle.whole_convert.specs.Between.{blocks_to}
 use Rattle.whole_convert.specs.Target.{KeepsLocked}
-use Rattle.whole_convert.specs.Led.{IsLedTo, AreLedBelow, AreAlike}
+use Rattle.whole_convert.specs.Led.{IsLedTo, AreLedBelow}
 use Rattle.whole_convert.proofs.PartOf.{IsPartOf, parts-plane}
 use Rattle.whole_convert.proofs.Stages.{with-rotation}
 use Rattle.whole_convert.proofs.Takes.{led-kept}

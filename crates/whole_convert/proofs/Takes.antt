@@ -12,7 +12,6 @@ use Rattle.skeletons.specs.Lists.{KeepsChoices}
 use Rattle.skel_embed.specs.Block.{BlockState, lock_at, IsBlockState}
 use Rattle.skel_embed.specs.Taken.{IsGiven, IsNotPlane, IsLockedOut}
 use Rattle.skel_embed.proofs.Spheres.{one-component}
-use Rattle.embed_enum.specs.Walk.{KeepsRest}
 use Rattle.whole_embed.specs.declared.members.Member.{Member}
 use Rattle.whole_embed.specs.Component.{Component}
 use Rattle.whole_embed.specs.Cuts.{in_plane, member_at, blocks_in}

@@ -1,5 +1,5 @@
 -- The lists that a rotation system has around the cut vertices, set one after the other.
-use Rattle.std.proofs.Common.{◌≡◌, ℕ, ◌+◌, ◌<◌, ◌≤◌, inl, inr, true, List, [], length, map, slice_index, slice_index_or, slice_set, refl, sym, ap, ◌∙◌, subst, arith}
+use Rattle.std.proofs.Common.{◌≡◌, ℕ, ◌+◌, ◌<◌, ◌≤◌, inl, inr, true, List, [], length, map, slice_index, slice_index_or, slice_set, sym, ap, ◌∙◌, subst, arith}
 use Rattle.std.proofs.lemmas.Bool.{cases_eq}
 use Rattle.std.proofs.lemmas.List.{length-map, length-set, get_or-map, ext_get_or, get_or-set_same, get_or-set_other}
 use Rattle.permutations.specs.Members.{is_member, place_of}

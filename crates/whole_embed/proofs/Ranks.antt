@@ -3,13 +3,11 @@ use Rattle.std.proofs.Common.{◌≡◌, ℕ, suc, ◌+◌, ◌<◌, ◌≤◌, 
 use Rattle.std.specs.List.{dedup, dedup_from}
 use Rattle.std.specs.List.Retain.{IsFiltered, DiffersFromLast}
 use Rattle.std.proofs.lemmas.Bool.{cases_Bool, cases_lt, cases_eq}
-use Rattle.std.proofs.lemmas.List.{length_push, get_or_append_left, get_or_push}
 use Rattle.std.proofs.lemmas.List.Filters.{dedup_is}
 use Rattle.std.proofs.lemmas.List.Kept.{Contains-from_dedup, Contains-dedup_nat}
 use Rattle.std.proofs.lemmas.List.Sorted.{Contains-permutation, IsPermutation-sym, length_permutation}
 use Rattle.std.proofs.lemmas.List.Elements.{Contains-get_or}
 use Rattle.multigraph.specs.Part.{Rises}
-use Rattle.whole_embed.specs.Keeping.{AreRanks}
 
 -- sorted, and each once, numbers are the same ones
 pub once-same : (numbers sorted once : List ℕ) → IsPermutation numbers sorted → IsFiltered (DiffersFromLast eqb) [] sorted once → (x : ℕ) → Contains once x ↔ Contains numbers x

@@ -8,5 +8,5 @@ pub decompose-requires-clause-runs : goal.decompose-requires-clause-runs
 decompose-requires-clause-runs c = plane-contiguous c.args.g.now c.args.t.now c.args.r.now c.requires.block c.requires.plane
 
 pub returns : goal.returns
-returns c = (c.in_ok-choices_in.ensures {u = tt}).keys_are
+returns c = (c.in_ok-keys.ensures {u = tt}).keys_are
     ∙ ap concat (choices-followed c.args.g.now c.args.t.now c.requires.block c.in_ok-members.members.items c.args.r.now (c.in_ok-members.ensures.follows {u = tt}))
