@@ -150,7 +150,7 @@ fn edges_walked(g: &Graph, t: &Tree) -> u64
 }
 
 // The keys of the choices of all nodes, one choice after the other; `old` are those in some plane rotation system. Where many nodes
-// have their least vertex at the same edges, walks around it would look at these again and again: the skeletons are then taken.
+// have one least vertex, walks around it would look at its edges again and again: the choices are then read off the skeletons.
 pub(crate) fn choices_of(
     alloc: Global,
     g: &Graph,

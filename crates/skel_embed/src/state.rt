@@ -278,8 +278,7 @@ impl PlaneBlock {
     /// Fails with `BadRotation` if the lists are not a rotation system of the block, as `Rotation::from_part` does; else with
     /// `NotGenusZero` if they are not plane, that is if V - E + F is not 2 (Euler 1758, Heffter 1891); else with `Locked` and the
     /// least such node if they have another choice at a locked node; fails with `Memory` if memory runs out. The block is then
-    /// unchanged. Takes linear time, and for each node with a choice the degree of its least vertex
-    /// times the time of `Tree::group`.
+    /// unchanged. Takes time n log n for n edges.
     pub fn take(&mut self, alloc: Global, part: &Part, lists: &Lists) -> Result<(), TakeFault>
         requires { part.now.graph ≡ self.old.graph }
         ensures given { IfOk result (λ _. IsGiven part.now lists.now self.new.rotation) }
