@@ -27,6 +27,7 @@ use Rattle.spqr_session.proofs.StartFaults.{started-not_bad}
 -- ---- one block
 
 module _ (part : GraphPart) (entries : List (ℕ × List ℕ)) (p q : BlockState) (is : IsEmbedded part (Plane p)) (right : IsBlockState q) (rest : q ≡ record p { rotation = q.rotation; choices = q.choices }) where
+
 -- what the block says of a refusal
 pub refused-view : (part : GraphPart) (entries : List (ℕ × List ℕ)) (p : BlockState) (fault : TakeFault) → IsTakeRefusal p part entries fault → IsBlockRefusal entries (block_view part (Plane p)) fault
 refused-view part entries p (BadRotation v) h = h
