@@ -8,7 +8,7 @@ use Rattle.blocks.specs.Blocks.{BlockStructure, AreBlocks, IsBlockStructure, blo
 use Rattle.blocks.proofs.BlockParts.{block-edges_in}
 use Rattle.kuratowski.specs.declared.subdivision.Subdivision.{Subdivision}
 use Rattle.gml_graph.specs.Named.{NamedGraph, ArrangeEdges, IsNamed}
-use Rattle.skel_embed.specs.Block.{BlockState, lock_at, IsBlockState}
+use Rattle.skel_embed.specs.Block.{BlockState, lock_at}
 use Rattle.skel_embed.specs.Taken.{IsTakeRefusal}
 use Rattle.skel_embed.specs.declared.planes.Outcome.TheVariants.{Plane}
 use Rattle.skel_embed.specs.declared.taking.TakeFault.{TakeFault}
@@ -17,7 +17,7 @@ use Rattle.spqr_session.specs.Trees.{BlockTree, IsBlockTree}
 use Rattle.spqr_session.specs.Certificates.{IsCertificate}
 use Rattle.spqr_session.specs.Start.{start_entries, IsBadStart, IsStartFault, IsStartRefusal}
 use Rattle.spqr_session.specs.State.{Embedding, IsStartEntry}
-use Rattle.spqr_session.specs.Embedded.{BlockView, view_at, no_view, block_view, entry_lock, IsEmbedded, IsStartBlock, AreStartBlocks}
+use Rattle.spqr_session.specs.Embedded.{BlockView, view_at, no_view, block_view, entry_lock, IsStartBlock, AreStartBlocks}
 use Rattle.spqr_session.specs.Starting.{AreStartLists, AreStartedBelow, IsEntryTaken, IsBlockTaken, IsBlockRefusal, IsReadyFor, IsGenusRefusal}
 use Rattle.spqr_session.specs.declared.fault.StartFault.{StartFault}
 use Rattle.spqr_session.specs.declared.fault.StartFault.TheVariants.{StartGenus, Memory as OutOfMemory}
@@ -25,8 +25,6 @@ use Rattle.spqr_session.proofs.StartLists.{starts-arranged}
 use Rattle.spqr_session.proofs.StartFaults.{started-not_bad}
 
 -- ---- one block
-
-module _ (part : GraphPart) (entries : List (ℕ × List ℕ)) (p q : BlockState) (is : IsEmbedded part (Plane p)) (right : IsBlockState q) (rest : q ≡ record p { rotation = q.rotation; choices = q.choices }) where
 
 -- what the block says of a refusal
 pub refused-view : (part : GraphPart) (entries : List (ℕ × List ℕ)) (p : BlockState) (fault : TakeFault) → IsTakeRefusal p part entries fault → IsBlockRefusal entries (block_view part (Plane p)) fault
