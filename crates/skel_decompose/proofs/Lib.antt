@@ -1,6 +1,6 @@
 -- Lemmas on the table of what follows each item, and on the walks that fill it.
 pub mod Flat
-mod Searched
+pub mod Searched
 mod Nearby
 mod Written
 mod Ahead

@@ -55,6 +55,12 @@ choices-followed g nodes b family r h = ext_get_or [] (choices_in nodes family) 
     let m : k < length nodes = subst (λ n. k < n) (choices-in_many nodes family) l in
     choices-in_at nodes family k m ∙ sym (choice-followed g nodes b family r h k m) ∙ sym (choices-by_at nodes r k m))
 
+-- the kept choices are those of the rotation system
+pub kept-are : (s : BlockState) → IsBlockState s → s.choices ≡ choices_by s.tree s.rotation
+kept-are s is = ext_get_or [] s.choices (choices_by s.tree s.rotation) (is.choices.each ∙ sym (choices-by_many s.tree s.rotation)) (λ k l.
+    let m : k < length s.tree = subst (λ n. k < n) is.choices.each l in
+    is.choices.is k m ∙ sym (choices-by_at s.tree s.rotation k m))
+
 module _ (s : BlockState) (is : IsBlockState s) (q : List (List ℕ)) (p : IsPlaneSystem s.graph q) where
   -- the choices of another plane rotation system end where those of the present one do
   same-ends : ends_from 0 (choices_by s.tree q) ≡ ends_from 0 s.choices

@@ -10,6 +10,8 @@ pub mod ArrangeSteps
 pub mod KeptLists
 mod Flat
 pub mod BondMoves
+mod Selected
+mod Drafted
 pub mod States
 pub mod RunKeys
 pub mod Spheres

@@ -11,3 +11,5 @@ pub mod Arranged
 pub mod Values
 pub mod Taken
 pub mod Flat
+pub mod Selected
+pub mod Drafts

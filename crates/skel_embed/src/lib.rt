@@ -28,6 +28,7 @@
 //   Flat           flat-view, piece-of, lent-put: choices kept as one list
 //   KeptKeys       first-kept, other-state: the kept choices of the first rotation system, and of another one
 //   RunKeys        choice-from, choice-long: a choice read off a cyclic order, and its length
+//   Selected       rigid-mirrored, bond-rebuilt: members with other choices; all-chosen: the one system that has them
 //   States         state-moved, state-mirrored: the invariant after a move
 #![tactic(auto)]
 
@@ -35,11 +36,13 @@ mod arranging;
 mod blocks_in_plane;
 mod choices;
 mod choosing;
+mod drafts;
 mod exchanging;
 mod kept;
 mod members;
 mod planes;
 mod runs;
+mod selecting;
 mod sizes;
 mod state;
 mod systems;
@@ -47,6 +50,7 @@ mod taking;
 mod turning;
 
 pub use blocks_in_plane::{BySkeletons, embed_by_skeletons};
+pub use drafts::Draft;
 pub use kept::place_of;
 pub use moves::{Keys, Move, MoveList};
 pub use planes::{Outcome, plane_block};

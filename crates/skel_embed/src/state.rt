@@ -1,6 +1,6 @@
 // A block in the plane.
 
-ghost use Rattle.std.specs.Prelude.{◌≡◌, ◌<◌, true, length, map, reverse, IfOk, IfErr, slice_set, IsPermutation};
+ghost use Rattle.std.specs.Prelude.{◌≡◌, ◌<◌, ℕ, List, true, length, map, reverse, IfOk, IfErr, slice_set, IsPermutation};
 ghost use Rattle.std.specs.List.{concat};
 ghost use Rattle.permutations.specs.Cyclic.{from_least};
 ghost use Rattle.permutations.specs.Members.{is_member};
@@ -21,7 +21,9 @@ use crate::choices::{
     Choices, arrange_choice, exchange_in_choice, turn_all, turn_choice, write_choice,
 };
 use crate::choosing::{choices_of, first_other};
+use crate::drafts::Draft;
 use crate::exchanging::exchange_node;
+use crate::selecting::with_choices;
 use crate::taking::{TakeFault, given};
 use crate::turning::turn_node;
 use multigraph::{Graph, Part};
@@ -295,6 +297,36 @@ impl PlaneBlock {
         self.rotation = rotation;
         self.keys = keys;
         Ok(())
+    }
+
+    /// The choices as a draft, on which moves are made before the rotation system is. Fails only if memory runs out.
+    pub fn draft(&self, alloc: Global) -> Result<Draft, AllocError>
+        ensures { IfOk result (λ draft. draft ≡ self.now.choices) }
+    {
+        self.belongs();
+        Ok(Draft::of(self.frame.clone()?, Vec::from_slice(alloc, &self.keys)?))
+    }
+
+    /// The block at the plane rotation system with the choices of a draft, composed of the rotation systems of its skeletons (Di
+    /// Battista and Tamassia 1996). Graph, tree and locks are the same. Takes time n log n for n edges, whatever number of choices differ.
+    /// Fails only if memory runs out.
+    pub fn with_choices(&self, alloc: Global, draft: Draft) -> Result<PlaneBlock, AllocError>
+        requires { (q : List (List ℕ)) × IsPlaneSystem self.now.graph q
+            × (draft ≡ choices_by self.now.tree q) }
+        ensures { (q : List (List ℕ)) → IsPlaneSystem self.now.graph q
+            → draft ≡ choices_by self.now.tree q
+            → IfOk result (λ p. p ≡ record self.now { rotation = q; choices = draft }) }
+    {
+        let (graph, tree) = (self.graph(), self.tree());
+        let (old, new) = (self.choices(), draft.choices());
+        let rotation = with_choices(alloc, graph, tree, &self.rotation, &old, &new)?;
+        let locks = Vec::from_slice(alloc, &self.locks)?;
+        Ok(PlaneBlock {
+            frame: self.frame.clone()?,
+            rotation,
+            keys: draft.into_keys(),
+            locks,
+        })
     }
 
     // The rotation system that the lists are, and the keys of its choices, if it may become that of the block.
