@@ -11,3 +11,4 @@ pub mod Nodes
 pub mod Walks
 pub mod Places
 pub mod Single
+mod Resets

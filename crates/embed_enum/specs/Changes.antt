@@ -2,7 +2,7 @@
 use Rattle.std.specs.Prelude.{◌≡◌, ◌≢◌, ℕ, ◌<◌, ◌≤◌, true, false, List, length}
 use Rattle.pair_split.specs.Tutte.{node_at}
 use Rattle.skeletons.specs.Choices.{choice}
-use Rattle.skel_embed.specs.Block.{BlockState, lock_at}
+use Rattle.skel_embed.specs.Block.{BlockState, lock_at, IsBlockState}
 use Rattle.embed_enum.specs.Digits.{digit_of, radix_at, digit_at, number_to}
 use Rattle.embed_enum.specs.Walk.{KeepsRest}
 
@@ -36,3 +36,10 @@ pub record IsNumbered (old new : BlockState) (number : ℕ) : Type 0 where
   pub rest : KeepsRest old new
   pub kept : (j : ℕ) → j < length old.tree → lock_at old.locks j ≡ true → choice old.tree new.rotation j ≡ choice old.tree old.rotation j
   pub is : number_to (length old.tree) (radix_at old.tree (lock_at old.locks)) (digit_at old.tree (lock_at old.locks) new.rotation) ≡ number
+
+-- the choices are those of a plane rotation system, the first n nodes at their first choices unless they are locked, and the others as they were
+pub record IsDraftReset (old : BlockState) (draft : List (List ℕ)) (n : ℕ) : Type 0 where
+  pub state : BlockState
+  pub right : IsBlockState state
+  pub is : draft ≡ state.choices
+  pub reset : AreReset old state 0 n

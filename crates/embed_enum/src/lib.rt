@@ -12,7 +12,7 @@
 // and those after it return to their first choices. These two need no number, and work on lists of any length. `members_after` keeps
 // the members that follow. The list is the same from each of its members, so a walk stays in it.
 //
-// No call but `members_after` takes memory, and a call that fails changes nothing. What they cost, in looks at choices:
+// No call but `members_after` and `first_in_one_pass` takes memory, and a call that fails changes nothing. What they cost, in looks at choices:
 // `count` a look at each node, and no more than 128 products by factors above one. `rank` the square of the number of items of
 // each bond that is not locked, and `goto` its cube; that number is 35 at most there, or else the list is over. `next` the keys
 // of the nodes that it tries, from the last up to the one that advances; `first` all keys. In addition, the exchanges and flips that
@@ -31,6 +31,7 @@
 //   Single   flip-chosen, exchange-chosen: what one move does to the choices
 //   Nodes    mirror-digit, bond-ends, bond-begins: digits by the kind of the node
 //   Walks    reset-more, next-number, numbered-more, rank-after, list-after, one-rank: from digits to places
+//   Resets   reset-flipped, reset-sorted: a draft with one node more at its first choice
 //   Places   lower-before, nexts-follow, follows-more: places in a list
 #![tactic(auto)]
 
@@ -39,6 +40,7 @@ mod laws;
 mod listing;
 mod moving;
 mod ranking;
+mod resetting;
 mod stepping;
 mod walking;
 
@@ -46,4 +48,5 @@ pub use counting::{CountOver, count};
 pub use laws::{ranks_tell_members, walks_follow_the_list};
 pub use listing::members_after;
 pub use ranking::rank;
+pub use resetting::{first_in_one_pass, is_at_first};
 pub use walking::{GotoFault, first, goto, next};

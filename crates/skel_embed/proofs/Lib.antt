@@ -15,4 +15,4 @@ mod Drafted
 pub mod States
 pub mod RunKeys
 pub mod Spheres
-mod KeptKeys
+pub mod KeptKeys

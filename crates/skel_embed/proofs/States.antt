@@ -103,7 +103,7 @@ state-arranged s is k keys q node f = state-moved s is (permute k keys) q (from_
     (permute-sets s.graph s.tree k keys s.rotation q is.block is.plane.system (plane-contiguous s.graph s.tree s.rotation is.block is.plane) node f)
 
 -- increasing numbers are written from the least on
-rises-written : (l : List ℕ) → Rises l → from_least l ≡ l
+pub rises-written : (l : List ℕ) → Rises l → from_least l ≡ l
 rises-written [] r = refl
 rises-written (x ∷ l) r = from_least-first x l (λ z m. rises-first x l r z (member-tail z x l m))
 
