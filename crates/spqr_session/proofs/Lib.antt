@@ -82,6 +82,7 @@ pub mod Started
 pub mod Families
 pub mod Boards
 pub mod WaysBack
+mod AtOnce
 pub mod BoardSteps
 pub mod BoardStates
 pub mod MovesMade

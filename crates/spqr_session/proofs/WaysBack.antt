@@ -53,7 +53,7 @@ module _ (g : Multigraph) (nodes : List Node) (b : IsBlockTree g nodes) where
   move-choice (flip k) r p is = let m = move-leads g nodes b (flip k) r p is in flip-turns g nodes k r (moved nodes (flip k) r) b p.system (plane-contiguous g nodes r b p) m.0 m.1
   move-choice (permute k keys) r p is = let m = move-leads g nodes b (permute k keys) r p is in permute-sets g nodes k keys r (moved nodes (permute k keys) r) b p.system (plane-contiguous g nodes r b p) m.0 m.1
 
-  choice-moved : (move : Move) (r : List (List ℕ)) (j : ℕ) → IsPlaneSystem g r → Fits nodes move → j < length nodes → choice nodes (moved nodes move r) j ≡ cond (moved_node move == j) (choice_moved move (choice nodes r j)) (choice nodes r j)
+  pub choice-moved : (move : Move) (r : List (List ℕ)) (j : ℕ) → IsPlaneSystem g r → Fits nodes move → j < length nodes → choice nodes (moved nodes move r) j ≡ cond (moved_node move == j) (choice_moved move (choice nodes r j)) (choice nodes r j)
   choice-moved move r j p is l = elim (cases_eq (moved_node move) j) [
     | inl e ↦ subst (λ (i : ℕ). choice nodes (moved nodes move r) i ≡ choice_moved move (choice nodes r i)) e (move-choice move r p is) ∙ sym (own-choice move j (choice nodes r j) e)
     | inr n ↦ move-others g nodes move r (moved nodes move r) b p.system (plane-contiguous g nodes r b p) (move-leads g nodes b move r p is) j l (λ e. n (sym e))

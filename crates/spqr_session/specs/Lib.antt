@@ -11,6 +11,7 @@ pub mod Starting
 pub mod Moved
 pub mod History
 pub mod Board
+pub mod AtOnce
 pub mod Marked
 pub mod Codes
 pub mod BlockCodes

@@ -8,6 +8,7 @@ ghost use Rattle.undo_log.specs.declared.step.Step.{Step};
 ghost use Rattle.spqr_session.specs.State.{Embedding};
 ghost use Rattle.spqr_session.specs.Kept.{Kept};
 ghost use Rattle.spqr_session.specs.Embedded.{BlockView, view_tree, view_entry, view_at, IsInPlane};
+ghost use Rattle.spqr_session.specs.AtOnce.{IsMadeOf, IsMadeForth, IsMadeBack};
 ghost use Rattle.spqr_session.specs.Moved.{all_moved};
 ghost use Rattle.spqr_session.specs.History.{as_pairs, IsMoveOf, IsStepOf, pairs_moved, block_mirrored, node_locked, entries_redone, entries_undone, lists_before, lists_after};
 ghost use Rattle.spqr_session.specs.Commands.History.{is_none};
@@ -15,6 +16,7 @@ ghost use Rattle.spqr_session.specs.Commands.Lock.{with_lock};
 ghost use Rattle.spqr_session.specs.Board.{HavePlaces, StandsAt, CanReplace, CanMake, AreMade, IsMirroredAt, IsChangedTo, GoesTo, LeadsTo, IsCarried, Clears, kept_with_entry, kept_changed, IsUndone, IsRedone};
 ghost use Rattle.spqr_session.specs.Wholes.{kept_arranged};
 
+use crate::at_once::{MadeBlock, made_back, made_forth};
 use crate::embedded::EmbeddedBlock;
 use crate::kept::{KeptLists, lists_after, lists_before};
 use crate::marks::MarkedVertices;
@@ -123,11 +125,12 @@ impl Board {
             → IfOk result (λ _. GoesTo self.old kept self.new) }
         ensures memory { OnErr result (self.new ≡ self.old) }
     {
+        let made = made_forth(alloc, &self.blocks, &step)?;
         let lists = lists_after(alloc, &step)?;
         self.log.reserve()?;
         self.marked
             .prepare(alloc, &self.blocks, &self.lists, &lists)?;
-        carry_forth(&mut self.blocks, &step);
+        carry_forth(&mut self.blocks, &step, made);
         self.lists.set(lists);
         self.log.note(step);
         Ok(())
@@ -206,11 +209,12 @@ impl Board {
         ensures carried { IsCarried self.old.views self.new.views }
         ensures memory { OnErr result (self.new ≡ self.old) }
     {
+        let made = earlier_made(alloc, &self.blocks, &self.log)?;
         let lists = earlier_lists(alloc, &self.log)?;
         self.marked
             .prepare(alloc, &self.blocks, &self.lists, &lists)?;
         if let Ok(step) = self.log.undo() {
-            carry_back(&mut self.blocks, step);
+            carry_back(&mut self.blocks, step, made);
             self.lists.set(lists);
         }
         Ok(())
@@ -223,11 +227,12 @@ impl Board {
         ensures carried { IsCarried self.old.views self.new.views }
         ensures memory { OnErr result (self.new ≡ self.old) }
     {
+        let made = later_made(alloc, &self.blocks, &self.log)?;
         let lists = later_lists(alloc, &self.log)?;
         self.marked
             .prepare(alloc, &self.blocks, &self.lists, &lists)?;
         if let Ok(step) = self.log.redo() {
-            carry_forth(&mut self.blocks, step);
+            carry_forth(&mut self.blocks, step, made);
             self.lists.set(lists);
         }
         Ok(())
@@ -385,6 +390,38 @@ fn later_lists(alloc: Global, log: &UndoLog) -> Result<Vec<(u32, Arrangement)>, 
     }
 }
 
+// What the step before the cursor makes of a block when it is taken back, where its moves are made in one pass.
+fn earlier_made(
+    alloc: Global,
+    blocks: &[EmbeddedBlock],
+    log: &UndoLog,
+) -> Result<Option<MadeBlock>, AllocError>
+    requires { All (IsStepOf (map view_tree blocks.now)) log.now.steps }
+    ensures { (i : ℕ) (s : Step) → i + 1 ≡ log.now.cursor → IsStepAt log.now.steps i s
+        → IfOk result (IsMadeBack blocks.now s) }
+{
+    match log.step_before() {
+        Some(step) => made_back(alloc, blocks, step),
+        None => Ok(None),
+    }
+}
+
+// What the step after the cursor makes of a block, where its moves are made in one pass.
+fn later_made(
+    alloc: Global,
+    blocks: &[EmbeddedBlock],
+    log: &UndoLog,
+) -> Result<Option<MadeBlock>, AllocError>
+    requires { All (IsStepOf (map view_tree blocks.now)) log.now.steps }
+    ensures { (s : Step) → IsStepAt log.now.steps log.now.cursor s
+        → IfOk result (IsMadeForth blocks.now s) }
+{
+    match log.step_after() {
+        Some(step) => made_forth(alloc, blocks, step),
+        None => Ok(None),
+    }
+}
+
 // Makes moves of blocks, one after the other.
 fn move_blocks(blocks: &mut Vec<EmbeddedBlock>, moves: &BlockMoves)
     requires { All (IsMoveOf (map view_tree blocks.old.items)) (as_pairs moves.now) }
@@ -394,6 +431,20 @@ fn move_blocks(blocks: &mut Vec<EmbeddedBlock>, moves: &BlockMoves)
 {
     for pair in moves.as_slice() {
         blocks[pair.block as usize].carry(&pair.one);
+    }
+}
+
+// Makes moves of blocks: puts the block in its place that was made of them, or makes one after the other.
+fn make_moves(blocks: &mut Vec<EmbeddedBlock>, moves: &BlockMoves, made: Option<MadeBlock>)
+    requires moves { All (IsMoveOf (map view_tree blocks.old.items)) (as_pairs moves.now) }
+    requires made { IsMadeOf blocks.old.items (as_pairs moves.now) made }
+    ensures carried { IsCarried blocks.old.items blocks.new.items }
+    ensures entries { map view_entry blocks.new.items ≡ pairs_moved (map view_tree blocks.old.items)
+        (as_pairs moves.now) (map view_entry blocks.old.items) }
+{
+    match made {
+        Some(one) => blocks[one.block as usize].replace(one.plane),
+        None => move_blocks(blocks, moves),
     }
 }
 
@@ -419,14 +470,15 @@ fn lock_block(blocks: &mut Vec<EmbeddedBlock>, b: u32, k: u32, on: bool)
 }
 
 // Takes a step of the blocks back.
-fn carry_back(blocks: &mut Vec<EmbeddedBlock>, step: &Step)
-    requires { IsStepOf (map view_tree blocks.old.items) step.now }
+fn carry_back(blocks: &mut Vec<EmbeddedBlock>, step: &Step, made: Option<MadeBlock>)
+    requires step { IsStepOf (map view_tree blocks.old.items) step.now }
+    requires made { IsMadeBack blocks.old.items step.now made }
     ensures carried { IsCarried blocks.old.items blocks.new.items }
     ensures entries { map view_entry blocks.new.items ≡ entries_undone
         (map view_tree blocks.old.items) step.now (map view_entry blocks.old.items) }
 {
     match step {
-        Step::Moves { back, .. } => move_blocks(blocks, back),
+        Step::Moves { back, .. } => make_moves(blocks, back, made),
         Step::Mirror { block, .. } => mirror_block(blocks, *block),
         Step::Lock {
             block,
@@ -438,14 +490,15 @@ fn carry_back(blocks: &mut Vec<EmbeddedBlock>, step: &Step)
 }
 
 // Makes the changes of a step to the blocks.
-fn carry_forth(blocks: &mut Vec<EmbeddedBlock>, step: &Step)
-    requires { IsStepOf (map view_tree blocks.old.items) step.now }
+fn carry_forth(blocks: &mut Vec<EmbeddedBlock>, step: &Step, made: Option<MadeBlock>)
+    requires step { IsStepOf (map view_tree blocks.old.items) step.now }
+    requires made { IsMadeForth blocks.old.items step.now made }
     ensures carried { IsCarried blocks.old.items blocks.new.items }
     ensures entries { map view_entry blocks.new.items ≡ entries_redone
         (map view_tree blocks.old.items) step.now (map view_entry blocks.old.items) }
 {
     match step {
-        Step::Moves { forth, .. } => move_blocks(blocks, forth),
+        Step::Moves { forth, .. } => make_moves(blocks, forth, made),
         Step::Mirror { block, .. } => mirror_block(blocks, *block),
         Step::Lock {
             block,

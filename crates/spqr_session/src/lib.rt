@@ -21,11 +21,13 @@
 //
 // `flip`, `permute` and `mirror` change a block in place. Their moves are of different nodes, and a move changes the choice of its
 // node alone, so each is taken back by one move to the choice that was there before, in any order: room for these is reserved
-// before anything changes. A change of a block sets its cut vertices to their first arrangements for the new blocks. So a list is
+// before anything changes. Where a step has many moves of one block, and together they would walk along far more edges than the block has,
+// they are made on its choices, and the rotation system is composed in one pass. A change of a block sets its cut vertices to their first arrangements for the new blocks. So a list is
 // kept only where another arrangement was set, and a change of a block removes those at its vertices; the others are found when
 // they are asked for.
 #![tactic(auto)]
 
+mod at_once;
 mod board;
 mod carrying;
 mod code;

@@ -11,20 +11,36 @@ ghost use Rattle.spqr_session.specs.Board.{state_on, BelongTogether, IsCarried};
 ghost use Rattle.spqr_session.specs.Planned.{IsPlan, IsPlanAt, IsFirstPlan, IsRankPlan, IsNextPlan, IsNextPlanAt, IsStepPlan};
 ghost use Rattle.spqr_session.specs.Commands.Walk.{FirstStep, NextStep};
 
+use crate::at_once::is_worth_a_pass;
 use crate::board::Board;
 use crate::code::Code;
 use crate::embedded::EmbeddedBlock;
 use crate::planned::{Planned, settle};
-use embed_enum::{GotoFault, count, first, goto, next};
+use embed_enum::{GotoFault, count, first, first_in_one_pass, goto, is_at_first, next};
 use skel_embed::{Outcome, PlaneBlock};
 use std::alloc::{AllocError, Global};
 
 // ---- first
 
-// The plan for a block in the plane: made on a copy.
+// The nodes that are neither locked nor at their first choices.
+fn nodes_past_first(alloc: Global, plane: &PlaneBlock) -> Result<Vec<u32>, AllocError> {
+    let mut nodes = Vec::new(alloc);
+    for k in 0..plane.tree().node_count() {
+        if !plane.locked(k) && !is_at_first(plane, k) {
+            nodes.push(k)?;
+        }
+    }
+    Ok(nodes)
+}
+
+// The plan for a block in the plane: composed in one pass where that is sooner done, else made on a copy.
 fn first_of_plane(alloc: Global, plane: &PlaneBlock) -> Result<Planned, AllocError>
     ensures { IfOk result (IsFirstPlan plane.now) }
 {
+    let nodes = nodes_past_first(alloc, plane)?;
+    if is_worth_a_pass(alloc, plane, &nodes)? {
+        return Ok(Planned::Change(first_in_one_pass(alloc, plane)?));
+    }
     let mut copy = plane.copy(alloc)?;
     first(&mut copy);
     Ok(Planned::Change(copy))

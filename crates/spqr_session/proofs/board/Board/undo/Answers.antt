@@ -16,5 +16,5 @@ invariant_of-self-in-Ok c =
     let same : kept_on c.carry_back.new.blocks.items c.set.new.self ≡ undone (map view_tree s.blocks.items) step (kept_on s.blocks.items s.lists) = λ i. record { entries = c.carry_back.ensures.entries i; lists = set i } in
     record {
       board = board-back s.blocks.items c.carry_back.new.blocks.items s.lists c.set.new.self s.log c.undo.follows.lender-at-none step c.carry_back.ensures.carried c.self.invariant.board passed same;
-      marks = marked-after s.blocks.items c.deref.result.now c.carry_back.new.blocks.items s.lists c.set.new.self c.in_ok-lists.lists.items c.deref-2.result.now c.prepare.new.self c.deref.ensures.value c.deref-2.ensures.value c.carry_back.ensures.carried.trees c.set.ensures c.in_ok-prepare.ensures.after;
+      marks = marked-after s.blocks.items c.deref-2.result.now c.carry_back.new.blocks.items s.lists c.set.new.self c.in_ok-lists.lists.items c.deref-3.result.now c.prepare.new.self c.deref-2.ensures.value c.deref-3.ensures.value c.carry_back.ensures.carried.trees c.set.ensures c.in_ok-prepare.ensures.after;
     }
