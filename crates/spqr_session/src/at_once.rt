@@ -11,6 +11,7 @@ ghost use Rattle.spqr_session.specs.Moved.{all_moved};
 
 use crate::embedded::EmbeddedBlock;
 use face_weights::{ABSENT, order_from};
+use multigraph::Graph;
 use pair_split::What;
 use skel_embed::{Draft, Move, Outcome, PlaneBlock};
 use spqr_tree::Tree;
@@ -90,8 +91,21 @@ fn beyond(sizes: &Sizes, k: u32, what: What) -> u64 {
     }
 }
 
+// The number of edges at the vertices of node k.
+fn edges_at(graph: &Graph, tree: &Tree, k: u32) -> u64
+    requires { k < length tree.now }
+{
+    let mut sum: u64 = 0;
+    for v in tree.vertices(k) {
+        if *v < graph.vertex_count() {
+            sum = sum.saturating_add(graph.degree(*v) as u64);
+        }
+    }
+    sum
+}
+
 // How many steps along edges a move of node k takes at most: the group of the item beyond which there is most stays where it is.
-fn steps_of_move(tree: &Tree, sizes: &Sizes, k: u32) -> u64 {
+fn steps_of_move(graph: &Graph, tree: &Tree, sizes: &Sizes, k: u32) -> u64 {
     if k >= tree.node_count() {
         return 0;
     }
@@ -102,7 +116,7 @@ fn steps_of_move(tree: &Tree, sizes: &Sizes, k: u32) -> u64 {
         sum = sum.saturating_add(number);
         most = most.max(number);
     }
-    sum.saturating_sub(most)
+    edges_at(graph, tree, k).min(sum.saturating_sub(most))
 }
 
 /// Whether moves of these nodes are sooner made in one pass than one after the other. It is a matter of time alone: both lead to the
@@ -121,7 +135,7 @@ pub(crate) fn is_worth_a_pass(
     let sizes = sizes_of(alloc, tree)?;
     let mut steps: u64 = 0;
     for k in nodes {
-        steps = steps.saturating_add(steps_of_move(tree, &sizes, *k));
+        steps = steps.saturating_add(steps_of_move(graph, tree, &sizes, *k));
     }
     Ok(steps / STEPS_OF_A_PASS > graph.edge_count() as u64)
 }
