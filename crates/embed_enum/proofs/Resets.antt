@@ -61,9 +61,6 @@ module _ (old : BlockState) (draft : List (List ℕ)) (k : ℕ) (l : k < length 
   there = subst (λ (z : List (List ℕ)). k < length z) (sym h.is) (subst (λ m. k < m) (sym h.right.choices.each) (subst (λ (t : List Node). k < length t) (sym tree) l))
 
   -- a triconnected node at its second choice is flipped
-  pub can-flip : CanBeMoved (flip k) draft
-  can-flip = there
-
   pub reset-flipped : lock_at old.locks k ≡ false → IsNodeOfKind old.tree k R → node_digit old k ≡ 1 → IsDraftReset old (choices_moved (flip k) draft) (k + 1)
   reset-flipped n is second = record {
     state = new;

@@ -136,6 +136,9 @@ fn choices_by_members(
     Ok(keys)
 }
 
+// A pass over the skeletons takes as long as walks that look at so many times the edges of the block.
+const LOOKS_OF_A_PASS: u64 = 4;
+
 // How many edges walks around the least vertices of all nodes with a choice look at.
 fn edges_walked(g: &Graph, t: &Tree) -> u64
     requires { IsBlockTree g.now t.now }
@@ -164,7 +167,7 @@ pub(crate) fn choices_of(
         × AreChoices t.now q (length t.now) old.now }
     ensures { IfOk result (λ keys. keys.items ≡ concat (choices_by t.now r.now)) }
 {
-    if edges_walked(g, t) / 4 > g.edge_count() as u64 {
+    if edges_walked(g, t) / LOOKS_OF_A_PASS > g.edge_count() as u64 {
         choices_by_members(alloc, g, t, r)
     } else {
         choices_by_walks(alloc, g, t, r, old)
