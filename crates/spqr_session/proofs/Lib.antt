@@ -70,6 +70,7 @@ pub mod SortedEdges
 pub mod SortedStarts
 pub mod NumbersAt
 pub mod NumberTexts
+mod EntryTexts
 mod StartExamples
 pub mod Grouped
 pub mod Moved

@@ -3,6 +3,7 @@ mod convert;
 mod convert_whole;
 mod count;
 mod draw;
+mod entry_texts;
 mod euler;
 mod flip;
 mod gml;

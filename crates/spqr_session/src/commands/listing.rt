@@ -11,18 +11,20 @@ ghost use Rattle.spqr_session.specs.Embedded.{view_tree, view_entry};
 ghost use Rattle.spqr_session.specs.BlockCodes.{no_more, ReadStep, TellsBlock};
 ghost use Rattle.spqr_session.specs.Commands.Listing.{members_text, IsListing};
 
+use super::entry_texts::EntryTexts;
 use crate::code::Code;
 use crate::embedded::EmbeddedBlock;
 use crate::lines::put_first;
 use embed_enum::next;
 use multigraph::Part;
 use skel_embed::{Outcome, PlaneBlock};
-use spqr_script::{end_line, list_line, more_line, push_rotation_line};
+use spqr_script::{end_line, list_line, more_line};
 use std::alloc::{AllocError, Global};
 
 // Goes to the next members, n of them or all where they are fewer, appends the line of each to a text, and returns how many they
 // are.
 fn push_members(
+    alloc: Global,
     out: &mut Vec<u8>,
     b: u32,
     n: u32,
@@ -37,11 +39,12 @@ fn push_members(
     ensures lines { IfOk result (λ t. (l : List (List (List ℕ))) (i : ℕ) → IsMemberList walker.old l → IsRank l walker.old.rotation i
         → out.new.items ≡ out.old.items ++ concat (map (rotation_text part.now b) (take n (drop (i + 1) l)))) }
 {
+    let mut entries = EntryTexts::new(alloc, part)?;
     for turn in 0..n {
         if !next(walker) {
             return Ok(turn);
         }
-        push_rotation_line(out, b, part, walker.rotation())?;
+        entries.push_line(alloc, out, b, part, walker.rotation())?;
     }
     Ok(n)
 }
@@ -93,7 +96,7 @@ fn list_plane(
 {
     let mut walker = plane.copy(alloc)?;
     let mut text = list_line(alloc, b, n)?;
-    let count = push_members(&mut text, b, n, part, &mut walker)?;
+    let count = push_members(alloc, &mut text, b, n, part, &mut walker)?;
     let last = last_line(alloc, next(&mut walker))?;
     text.extend_from_slice(&last)?;
     set_count(alloc, &mut text, b, n, count)?;
