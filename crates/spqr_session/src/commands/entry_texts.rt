@@ -10,6 +10,7 @@ use decimals::{push_number, push_spaced, push_word};
 use multigraph::{Numbers, Part, Sequence};
 use rotations::{RotIter, Rotation};
 use std::alloc::{AllocError, Global};
+use std::mem;
 
 // The entries of the line before: the numbers of the edges around each vertex of a block, and the text of its entry with what separates
 // it from the one before; no text where nothing was written yet. Beside them room for the edges around one vertex.
@@ -46,12 +47,18 @@ fn separator_at(v: u32) -> &'static [u8]
     }
 }
 
-// The text of the entry of vertex v with these edges, and what comes before it.
-fn text_of_entry(alloc: Global, part: &Part, v: u32, numbers: &[u32]) -> Result<Vec<u8>, AllocError>
+// The text of the entry of vertex v with these edges, and what comes before it, in the memory of a text that is needed no longer.
+fn text_of_entry(
+    mut text: Vec<u8>,
+    part: &Part,
+    v: u32,
+    numbers: &[u32],
+) -> Result<Vec<u8>, AllocError>
     requires { v < part.now.graph.vertex_count }
     ensures { IfOk result (λ text. text.items ≡ text_at part.now v numbers.now) }
 {
-    let mut text = Vec::from_slice(alloc, separator_at(v))?;
+    text.clear();
+    push_word(&mut text, separator_at(v))?;
     push_number(&mut text, u128::from(part.vertex(v)))?;
     push_word(&mut text, b":")?;
     push_spaced(&mut text, numbers)?;
@@ -91,9 +98,12 @@ impl EntryTexts {
         {
             return Ok(());
         }
-        let text = text_of_entry(alloc, part, v, &self.numbers)?;
-        self.orders[i] = Numbers::of(Vec::from_slice(alloc, &self.numbers)?);
+        let before = mem::replace(&mut self.texts[i], Sequence::of(Vec::new(alloc)));
+        let text = text_of_entry(before.into_vec(), part, v, &self.numbers)?;
         self.texts[i] = Sequence::of(text);
+        let order = mem::replace(&mut self.orders[i], Numbers::empty(alloc));
+        let numbers = mem::replace(&mut self.numbers, order.into_vec());
+        self.orders[i] = Numbers::of(numbers);
         Ok(())
     }
 
