@@ -1,8 +1,8 @@
 -- What a move of a block makes, and why one is refused.
 use Rattle.std.specs.Prelude.{◌≡◌, ◌≢◌, ℕ, ◌<◌, Bool, true, false, ◌&&◌, List, length, IsPermutation}
 use Rattle.pair_split.specs.Tutte.{Node, node_at}
-use Rattle.pair_split.specs.declared.components.Kind.{Kind}
-use Rattle.pair_split.specs.declared.components.Kind.TheVariants.{S, P, R, B}
+use Rattle.pair_split.specs.Kinds.{has_choices}
+use Rattle.pair_split.specs.declared.components.Kind.TheVariants.{P, R}
 use Rattle.rotations.specs.Runs.{mirror_image}
 use Rattle.skeletons.specs.Items.{node_keys}
 use Rattle.skeletons.specs.Moves.{Move, flip, permute, IsNodeOfKind, MoveLeads}
@@ -28,16 +28,9 @@ IsPermuteRefusal s k keys permutes.WrongKind = (node_at s.tree k).kind ≢ P
 IsPermuteRefusal s k keys permutes.BadOrder = ((node_at s.tree k).kind ≡ P) × (IsPermutation (node_keys s.tree k) keys → ⊥)
 IsPermuteRefusal s k keys (permutes.Locked j) = ((node_at s.tree k).kind ≡ P) × IsPermutation (node_keys s.tree k) keys × (lock_at s.locks k ≡ true) × (j ≡ k)
 
--- whether nodes of this kind have a choice, which the mirror image reverses
-abbrev pub has_choice : Kind → Bool
-has_choice P = true
-has_choice R = true
-has_choice S = false
-has_choice B = false
-
--- whether node k is locked and has a choice
+-- whether node k is locked and has choices
 abbrev pub is_held : BlockState → ℕ → Bool
-is_held s k = lock_at s.locks k && has_choice (node_at s.tree k).kind
+is_held s k = lock_at s.locks k && has_choices (node_at s.tree k).kind
 
 -- every rotation was reversed, the choices went with them, and all else stayed
 pub record IsMirrored (old new : BlockState) : Type 0 where

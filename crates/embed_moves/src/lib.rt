@@ -15,5 +15,5 @@ mod permuting;
 
 pub use carrying::{back, carry_out};
 pub use flipping::{FlipFault, flip};
-pub use mirroring::{Locked, mirror};
+pub use mirroring::{Locked, least_held, mirror};
 pub use permuting::{PermuteFault, permute};

@@ -1,9 +1,8 @@
 // The mirror image of a block in the plane, if allowed.
 
 ghost use Rattle.std.specs.Prelude.{◌≡◌, ◌<◌, IfOk, IfErr, MatchOption};
-ghost use Rattle.embed_moves.specs.Made.{has_choice, IsMirrored, NoneHeld, IsLeastHeld};
+ghost use Rattle.embed_moves.specs.Made.{IsMirrored, NoneHeld, IsLeastHeld};
 
-use pair_split::Kind;
 use skel_embed::PlaneBlock;
 use thiserror::Error;
 
@@ -12,22 +11,12 @@ use thiserror::Error;
 #[error("node {0} is locked")]
 pub struct Locked(pub u32);
 
-// Whether nodes of this kind have a choice.
-fn has_choice(kind: Kind) -> bool
-    ensures { result ≡ has_choice kind }
-{
-    match kind {
-        Kind::P | Kind::R => true,
-        Kind::S | Kind::B => false,
-    }
-}
-
-// The least locked node that has a choice.
-fn least_held(p: &PlaneBlock) -> Option<u32>
+/// The least locked node that has choices, a bond or a triconnected node, if there is one.
+pub fn least_held(p: &PlaneBlock) -> Option<u32>
     ensures { MatchOption result (NoneHeld p.now) (IsLeastHeld p.now) }
 {
     for k in 0..p.tree().node_count() {
-        if p.locked(k) && has_choice(p.tree().kind(k)) {
+        if p.locked(k) && p.tree().kind(k).has_choices() {
             return Some(k);
         }
     }

@@ -1,7 +1,7 @@
 // Nodes of a tree by their kinds.
 ghost use Rattle.std.specs.Prelude.{◌≡◌, length, MatchOption};
 ghost use Rattle.made_summary.specs.Kinds.{IsLeastWithChoices, NoneHasChoices, nodes_of};
-ghost use Rattle.pair_split.specs.Kinds.{has_choices, is_bond, is_polygon, is_rigid};
+ghost use Rattle.pair_split.specs.Kinds.{is_bond, is_polygon, is_rigid};
 
 use pair_split::Kind;
 use spqr_tree::Tree;
@@ -38,23 +38,13 @@ pub(crate) fn count_kinds(tree: &Tree) -> Kinds
     }
 }
 
-// Whether nodes of this kind have choices.
-fn has_choices(kind: Kind) -> bool
-    ensures { result ≡ has_choices kind }
-{
-    match kind {
-        Kind::P | Kind::R => true,
-        Kind::S | Kind::B => false,
-    }
-}
-
 // The least node that has choices.
 pub(crate) fn least_with_choices(tree: &Tree) -> Option<u32>
     ensures { MatchOption result (NoneHasChoices tree.now (length tree.now))
         (λ k. IsLeastWithChoices tree.now k) }
 {
     for k in 0..tree.node_count() {
-        if has_choices(tree.kind(k)) {
+        if tree.kind(k).has_choices() {
             return Some(k);
         }
     }

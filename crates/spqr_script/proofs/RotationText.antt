@@ -27,7 +27,7 @@ entry-is part r v in_part in_r =
     get_or-zip part.vertices orders v (0, []) in_part (omega (arith, length-map r (map (slice_index part.edges))))
     ∙ ap (λ (o : List ℕ). (slice_index part.vertices v, o)) (get_or-map (map (slice_index part.edges)) r v [] [] in_r)
 
-entries-from : (part : GraphPart) (r : List (List ℕ)) (before : List ℕ) (v : ℕ) → v < length part.vertices → v < length r
+pub entries-from : (part : GraphPart) (r : List (List ℕ)) (before : List ℕ) (v : ℕ) → v < length part.vertices → v < length r
     → entries_text before (drop v (outer_entries part r)) ≡ before ++ entry_text (outer_entry part r v) ++ entries_text (codes "; ") (drop (v + 1) (outer_entries part r))
 entries-from part r before v in_part in_r =
     let all : List (ℕ × List ℕ) = outer_entries part r in
