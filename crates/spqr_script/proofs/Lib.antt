@@ -14,7 +14,7 @@ mod Steps
 mod Rotations
 pub mod Scripts
 pub mod Within
-mod RotationText
+pub mod RotationText
 mod PointText
 pub mod PartNodes
 mod Printed

@@ -1,5 +1,5 @@
 -- Components of a setting: with the blocks of a family they are components in the plane; their vertices, and the edges around these.
-use Rattle.std.proofs.Common.{◌≡◌, ℕ, zero, suc, ◌+◌, ◌<◌, Bool, true, false, List, ◌∷◌, length, slice_index, slice_index_or, Option, None, Some, inl, inr, refl, sym, ap, ◌∙◌, subst, arith}
+use Rattle.std.proofs.Common.{◌≡◌, ℕ, zero, suc, ◌+◌, ◌<◌, Bool, true, false, List, length, slice_index, slice_index_or, Option, None, Some, inl, inr, refl, sym, ap, ◌∙◌, subst, arith}
 use Rattle.std.proofs.lemmas.Bool.{cases_Bool, cases_eq, true≢false, cond-true, cond-false}
 use Rattle.std.proofs.lemmas.List.{get_or-map}
 use Rattle.permutations.specs.Count.{count}

@@ -70,7 +70,7 @@ pub mod SortedEdges
 pub mod SortedStarts
 pub mod NumbersAt
 pub mod NumberTexts
-mod EntryTexts
+mod KeptLines
 mod StartExamples
 pub mod Grouped
 pub mod Moved

@@ -3,14 +3,13 @@ use Rattle.std.proofs.Common.{◌≡◌, ℕ, ◌<◌, Bool, true, false, not, �
 use Rattle.permutations.specs.Count.{some, least}
 use Rattle.permutations.proofs.Search.{least-is, some-from, none-some}
 use Rattle.pair_split.specs.Tutte.{Node, node_at}
-use Rattle.pair_split.specs.declared.components.Kind.{Kind}
 use Rattle.skel_embed.specs.Block.{BlockState, lock_at}
 use Rattle.embed_moves.specs.Made.{IsLeastHeld, NoneHeld}
 use Rattle.embed_moves.specs.Made as made
 use Rattle.spqr_session.specs.State.{Embedding}
 use Rattle.spqr_session.specs.Embedded.{BlockView}
 use Rattle.spqr_session.specs.Codes.{Ladder, first_code}
-use Rattle.spqr_session.specs.BlockCodes.{is_planar, kind_of, entry_codes, of_entry}
+use Rattle.spqr_session.specs.BlockCodes.{is_planar, entry_codes, of_entry}
 use Rattle.pair_split.specs.Kinds.{has_choices}
 use Rattle.spqr_session.specs.Commands.Mirror.{is_held, mirror_codes}
 use Rattle.spqr_session.specs.Planned.{IsVerdict, IsMirrorVerdict}
@@ -34,10 +33,7 @@ module _ (v : BlockView) (p : BlockState) (seen : SeenPlane v p) where
 
   -- the two tests of a held node are the same
   held-same : (k : ℕ) → made.is_held p k ≡ is_held v.tree here k
-  held-same k = ap (λ (t : List Node). lock_at p.locks k && made.has_choice (node_at t k).kind) seen.nodes ∙ ap (λ (b : Bool). lock_at p.locks k && b) (choices-same (kind_of v.tree k))
-    where
-      choices-same : (kind : Kind) → made.has_choice kind ≡ has_choices kind
-      choices-same kind = refl
+  held-same k = ap (λ (t : List Node). lock_at p.locks k && has_choices (node_at t k).kind) seen.nodes
 
   mirror-codes : (o : Option Code) → first_code (mirror_codes v.tree here) ≡ o → IsVerdict (entry_codes mirror_codes v.tree v.entry) o
   mirror-codes o e = planar-missed (of_entry (mirror_codes v.tree) v.entry) o (entry-own (mirror_codes v.tree) o e)

@@ -28,6 +28,6 @@ pub mod Head
 pub mod Report
 pub mod Sorting
 pub mod Texts
-pub mod EntryTexts
+pub mod KeptLine
 pub mod Machine
 pub mod Laws

@@ -1,5 +1,5 @@
 -- `regroup V EDGES`: another arrangement at a cut vertex.
-use Rattle.std.specs.Prelude.{◌≡◌, ℕ, ◌<◌, true, false, List, slice_index, slice_index_or, slice_set, Option, None, Some, Contains, IsPermutation}
+use Rattle.std.specs.Prelude.{◌≡◌, ℕ, ◌<◌, true, false, List, slice_index, slice_set, Option, None, Some, Contains, IsPermutation}
 use Rattle.permutations.specs.Members.{is_member, place_of}
 use Rattle.permutations.specs.Cyclic.{from_least}
 use Rattle.multigraph.specs.Graph.{incident_edges}

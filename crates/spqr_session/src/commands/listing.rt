@@ -11,7 +11,7 @@ ghost use Rattle.spqr_session.specs.Embedded.{view_tree, view_entry};
 ghost use Rattle.spqr_session.specs.BlockCodes.{no_more, ReadStep, TellsBlock};
 ghost use Rattle.spqr_session.specs.Commands.Listing.{members_text, IsListing};
 
-use super::entry_texts::EntryTexts;
+use super::kept_line::line_of;
 use crate::code::Code;
 use crate::embedded::EmbeddedBlock;
 use crate::lines::put_first;
@@ -39,12 +39,14 @@ fn push_members(
     ensures lines { IfOk result (λ t. (l : List (List (List ℕ))) (i : ℕ) → IsMemberList walker.old l → IsRank l walker.old.rotation i
         → out.new.items ≡ out.old.items ++ concat (map (rotation_text part.now b) (take n (drop (i + 1) l)))) }
 {
-    let mut entries = EntryTexts::new(alloc, part)?;
+    let mut kept = None;
     for turn in 0..n {
         if !next(walker) {
             return Ok(turn);
         }
-        entries.push_line(alloc, out, b, part, walker.rotation())?;
+        let line = line_of(alloc, kept, b, part, walker.rotation())?;
+        out.extend_from_slice(line.text())?;
+        kept = Some(line);
     }
     Ok(n)
 }

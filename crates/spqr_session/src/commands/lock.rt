@@ -13,20 +13,9 @@ ghost use Rattle.spqr_session.specs.Commands.Lock.{LockStep};
 use crate::board::Board;
 use crate::code::Code;
 use crate::embedded::EmbeddedBlock;
-use pair_split::Kind;
 use skel_embed::Outcome;
 use spqr_script::ok_line;
 use std::alloc::{AllocError, Global};
-
-// Whether a node of this kind has choices.
-pub(super) fn has_choices(kind: Kind) -> bool
-    ensures { result ≡ has_choices kind }
-{
-    match kind {
-        Kind::P | Kind::R => true,
-        Kind::S | Kind::B => false,
-    }
-}
 
 // The code that applies to a lock of node k of a block.
 fn code_of_block(block: &EmbeddedBlock, k: u32) -> Option<Code>
@@ -35,7 +24,7 @@ fn code_of_block(block: &EmbeddedBlock, k: u32) -> Option<Code>
     if k >= block.tree().node_count() {
         return Some(Code::NoNode);
     }
-    if !has_choices(block.tree().kind(k)) {
+    if !block.tree().kind(k).has_choices() {
         return Some(Code::WrongKind);
     }
     match block.outcome() {

@@ -1,6 +1,5 @@
 // `mirror B`: the mirror image of the present rotation system of a block.
-ghost use Rattle.std.specs.Prelude.{◌≡◌, map, IfOk, OnErr, MatchOption};
-ghost use Rattle.embed_moves.specs.Made.{NoneHeld, IsLeastHeld};
+ghost use Rattle.std.specs.Prelude.{◌≡◌, map, IfOk, OnErr};
 ghost use Rattle.spqr_session.specs.State.{State};
 ghost use Rattle.spqr_session.specs.Embedded.{view_tree, view_entry};
 ghost use Rattle.spqr_session.specs.Scene.{setting_on};
@@ -10,25 +9,13 @@ ghost use Rattle.spqr_session.specs.Board.{state_on, BelongTogether, IsCarried};
 ghost use Rattle.spqr_session.specs.Planned.{IsVerdict, IsMirrorVerdict};
 ghost use Rattle.spqr_session.specs.Commands.Mirror.{mirror_codes, MirrorStep};
 
-use super::lock::has_choices;
 use crate::board::Board;
 use crate::code::Code;
 use crate::embedded::EmbeddedBlock;
+use embed_moves::least_held;
 use skel_embed::{Outcome, PlaneBlock};
 use spqr_script::ok_line;
 use std::alloc::{AllocError, Global};
-
-// The least locked node that has choices.
-fn least_held(plane: &PlaneBlock) -> Option<u32>
-    ensures { MatchOption result (NoneHeld plane.now) (IsLeastHeld plane.now) }
-{
-    for k in 0..plane.tree().node_count() {
-        if plane.locked(k) && has_choices(plane.tree().kind(k)) {
-            return Some(k);
-        }
-    }
-    None
-}
 
 // Code 12, where it applies to the mirror image of a block in the plane.
 fn code_of_plane(plane: &PlaneBlock) -> Option<Code>

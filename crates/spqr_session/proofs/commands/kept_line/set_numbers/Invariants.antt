@@ -1,6 +1,6 @@
 use Rattle.std.proofs.Common.{◌≡◌, ◌<◌, ◌++◌, All, map, slice_index, length}
 use Rattle.multigraph.specs.Graph.{edge_count}
-use Rattle.spqr_session.proofs.commands.entry_texts.set_numbers.Given as goal
+use Rattle.spqr_session.proofs.commands.kept_line.set_numbers.Given as goal
 
 -- with what is left the numbers are those of the walk
 abbrev pub invariant-loop-e : goal.invariant-loop-e

@@ -1,7 +1,7 @@
 use Rattle.std.proofs.Common.{◌≡◌, ◌<◌, ◌∷◌, ◌++◌, [], ℕ, List, map, All, slice_index, sym, ap, ◌∙◌, subst, append_assoc}
 use Rattle.std.proofs.lemmas.List.Elements.{All-tail}
 use Rattle.multigraph.specs.Graph.{edge_count}
-use Rattle.spqr_session.proofs.commands.entry_texts.set_numbers.Goals as goal
+use Rattle.spqr_session.proofs.commands.kept_line.set_numbers.Goals as goal
 
 -- one edge more
 pub loop-e-preserved : goal.loop-e-preserved
