@@ -54,8 +54,10 @@ fn push_entries(out: &mut Vec<u8>, part: &Part, r: &Rotation) -> Result<(), Allo
     Ok(())
 }
 
-// Appends this line to a text.
-fn push_rotation_line(
+/// Appends the line `rotation B | V: E ..; V: E ..` to a text: a rotation system of a block, its vertices increasing, each list
+/// from its least edge on, in the numbers of the whole graph. Fails only if memory runs out; the text may then end in a part of
+/// the line.
+pub fn push_rotation_line(
     out: &mut Vec<u8>,
     b: u32,
     part: &Part,

@@ -8,11 +8,13 @@ ghost use Rattle.multigraph.specs.Darts.{dart_count};
 ghost use Rattle.multigraph.specs.Graph.{edge_count};
 ghost use Rattle.multigraph.specs.Marks.{is_marked};
 ghost use Rattle.rotations.specs.Rotation.{order_at, IsRotationSystem};
+ghost use Rattle.spqr_script.specs.Answers.Rotation.{rotation_text};
 ghost use Rattle.spqr_session.specs.KeptLine.{separator, text_at, edges_around, entries_of, line_begin, ArePlaces, AreFollowers, AgreeUnmarked, IsWritten, IsKept};
 
 use decimals::{push_number, push_spaced, push_word};
 use multigraph::{Graph, Part, dart_count, tail};
 use rotations::{RotIter, Rotation};
+use spqr_script::push_rotation_line;
 use std::alloc::{AllocError, Global};
 
 // The line of a rotation system of a block, the place in it of each vertex's entry, and for each dart the edge that follows its edge
@@ -170,14 +172,14 @@ impl KeptLine {
     }
 
     // The line.
-    pub(super) fn text(&self) -> &[u8]
+    fn text(&self) -> &[u8]
         ensures { result.now ≡ self.now.line.items }
     {
         self.line.as_slice()
     }
 
     // Makes the line that of another rotation system of the block.
-    pub(super) fn renew(&mut self, part: &Part, r: &Rotation) -> Result<(), AllocError>
+    fn renew(&mut self, part: &Part, r: &Rotation) -> Result<(), AllocError>
         requires system { IsRotationSystem part.now.graph r.now }
         requires kept { (b : ℕ) × (q : List (List ℕ)) × IsKept part.now b q self.old.line.items
             self.old.places.items self.old.followers.items self.old.changed.items }
@@ -238,7 +240,7 @@ impl KeptLine {
 }
 
 // The line of a rotation system of block b, in the place of that of another one, if there is one.
-pub(super) fn line_of(
+fn line_of(
     alloc: Global,
     before: Option<KeptLine>,
     b: u32,
@@ -258,4 +260,30 @@ pub(super) fn line_of(
         }
         None => KeptLine::new(alloc, b, part, r),
     }
+}
+
+// Appends the line of a rotation system of block b to a text, and keeps it. Of a block with two vertices no line is kept: no two of its
+// rotation systems have the same entry.
+pub(super) fn push_member(
+    alloc: Global,
+    out: &mut Vec<u8>,
+    before: Option<KeptLine>,
+    b: u32,
+    part: &Part,
+    r: &Rotation,
+) -> Result<Option<KeptLine>, AllocError>
+    requires system { IsRotationSystem part.now.graph r.now }
+    requires kept { IfSome before (λ kept. (q : List (List ℕ)) × IsKept part.now b q kept.line.items
+        kept.places.items kept.followers.items kept.changed.items) }
+    ensures line { OnOk result (out.new.items ≡ out.old.items ++ rotation_text part.now b r.now) }
+    ensures kept { IfOk result (λ after. IfSome after (λ kept. (q : List (List ℕ)) × IsKept part.now b q kept.line.items
+        kept.places.items kept.followers.items kept.changed.items)) }
+{
+    if part.graph().vertex_count() == 2 {
+        push_rotation_line(out, b, part, r)?;
+        return Ok(None);
+    }
+    let kept = line_of(alloc, before, b, part, r)?;
+    out.extend_from_slice(kept.text())?;
+    Ok(Some(kept))
 }

@@ -11,7 +11,7 @@ ghost use Rattle.spqr_session.specs.Embedded.{view_tree, view_entry};
 ghost use Rattle.spqr_session.specs.BlockCodes.{no_more, ReadStep, TellsBlock};
 ghost use Rattle.spqr_session.specs.Commands.Listing.{members_text, IsListing};
 
-use super::kept_line::line_of;
+use super::kept_line::push_member;
 use crate::code::Code;
 use crate::embedded::EmbeddedBlock;
 use crate::lines::put_first;
@@ -44,9 +44,7 @@ fn push_members(
         if !next(walker) {
             return Ok(turn);
         }
-        let line = line_of(alloc, kept, b, part, walker.rotation())?;
-        out.extend_from_slice(line.text())?;
-        kept = Some(line);
+        kept = push_member(alloc, out, kept, b, part, walker.rotation())?;
     }
     Ok(n)
 }

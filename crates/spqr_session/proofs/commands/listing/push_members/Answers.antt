@@ -7,8 +7,8 @@ use Rattle.spqr_script.specs.Answers.Rotation.{rotation_text}
 use Rattle.spqr_session.proofs.MemberLines.{passed-count, passed-all, lines-more}
 use Rattle.spqr_session.proofs.commands.listing.push_members.Goals as goal
 
-pub line_of-requires-clause-system : goal.line_of-requires-clause-system
-line_of-requires-clause-system c =
+pub push_member-requires-clause-system : goal.push_member-requires-clause-system
+push_member-requires-clause-system c =
     subst (λ (r : List (List ℕ)). IsRotationSystem c.args.part.now.graph r) (sym c.rotation.ensures.value)
     (subst (λ (g : Multigraph). IsRotationSystem g c.next.new.p.rotation) (c.next.ensures.rest.graph ∙ c.loop-turn.invariant.0.0) c.rotation.ensures.state.plane.system)
 
@@ -20,14 +20,14 @@ returns-then-not-next-clause-count c = λ l i m k.
 
 pub loop-turn-preserved : goal.loop-turn-preserved
 loop-turn-preserved c = (
-  (c.next.ensures.rest.graph ∙ c.loop-turn.invariant.0.0, (c.rotation.result.now, c.in_ok-line.ensures)),
+  (c.next.ensures.rest.graph ∙ c.loop-turn.invariant.0.0, c.in_ok-kept.ensures.kept),
   λ l i m k.
       let h = c.loop-turn.invariant.1 l i m k in
       let t = c.loop-turn.turn in
       let n : i + t + 1 ≡ i + (t + 1) = omega arith in
       let r : IsRank l c.next.new.p.rotation (i + (t + 1)) = subst (IsRank l c.next.new.p.rotation) n (c.next.ensures.next l (i + t) h.0 h.1 c.if-not-next.false) in
-      let line = c.in_ok-extend_from_slice.ensures.items ∙ ap (λ (t : List ℕ). c.loop-turn.out.items ++ t) (c.text.ensures ∙ c.in_ok-line.ensures.written.text) ∙ ap (λ (x : List (List ℕ)). c.loop-turn.out.items ++ rotation_text c.args.part.now c.args.b x) c.rotation.ensures.value in
-      (c.next.ensures.list l h.0, r, lines-more l i (rotation_text c.args.part.now c.args.b) t c.next.new.p.rotation c.args.out.now.items c.loop-turn.out.items c.extend_from_slice.new.self.items r h.2 line),
+      let line = c.in_ok-kept.ensures.line ∙ ap (λ (x : List (List ℕ)). c.loop-turn.out.items ++ rotation_text c.args.part.now c.args.b x) c.rotation.ensures.value in
+      (c.next.ensures.list l h.0, r, lines-more l i (rotation_text c.args.part.now c.args.b) t c.next.new.p.rotation c.args.out.now.items c.loop-turn.out.items c.push_member.new.out.items r h.2 line),
 )
 
 pub returns-then-not-next-clause-lines : goal.returns-then-not-next-clause-lines
