@@ -10,3 +10,4 @@ pub mod DartEnds
 pub mod Ends
 mod FirstFault
 mod Instances
+mod Flat

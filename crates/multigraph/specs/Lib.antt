@@ -6,3 +6,4 @@ pub mod Part
 pub mod Darts
 pub mod Marks
 pub mod Buckets
+pub mod Flat

@@ -6,12 +6,14 @@
 // ends of its edges; that the ends are vertices, that no edge is a loop and that the graph is within the limits holds of every
 // `Graph`.
 //
-// `Sequence` is a vector that contracts view as a list: `Numbers` and `NumberLists` are two of this kind.
+// `Sequence` is a vector that contracts view as a list: `Numbers` and `NumberLists` are two of this kind. `FlatLists` keeps lists one after
+// the other in two vectors.
 #![tactic(auto)]
 
 mod buckets;
 mod darts;
 mod faults;
+mod flat_lists;
 mod incidence;
 pub mod laws;
 mod lists;
@@ -21,6 +23,7 @@ mod structure;
 pub use buckets::places_of;
 pub use darts::{dart_count, dart_from, head, tail, twin};
 pub use faults::BuildFault;
+pub use flat_lists::FlatLists;
 pub use lists::{NumberLists, Numbers, Sequence};
 pub use parts::Part;
 pub use structure::{Graph, MAX_EDGES, MAX_VERTICES};

@@ -1,12 +1,12 @@
 -- Lists of edges whose darts follow one another, and what an exchange and a reversal of rings do to them.
-use Rattle.std.proofs.Common.{◌≡◌, ◌≢◌, ℕ, ◌/◌, ◌<◌, true, false, cond, eqb, List, [], ◌∷◌, ◌++◌, length, get_or, reverse, refl, sym, ap, ◌∙◌, subst, inl, inr, arith, append_assoc, append-nil}
-use Rattle.std.proofs.lemmas.Bool.{cases_Bool, cases_eq, eq-eqb, eqb-true, ne_eqb, cond-true, cond-false, both_ways, true≢false, false_from_ne_true}
+use Rattle.std.proofs.Common.{◌≡◌, ◌≢◌, ℕ, ◌/◌, ◌<◌, true, false, cond, eqb, List, [], ◌∷◌, ◌++◌, length, get_or, reverse, refl, sym, ap, ◌∙◌, subst, inl, inr, append_assoc, append-nil}
+use Rattle.std.proofs.lemmas.Bool.{cases_Bool, eq-eqb, eqb-true, cond-true, cond-false, both_ways, true≢false, false_from_ne_true}
 use Rattle.permutations.specs.Members.{is_member, is_distinct}
 use Rattle.permutations.specs.Cyclic.{first_or, successor, predecessor}
-use Rattle.permutations.specs.Permutation.{Permutes, same_orbit}
+use Rattle.permutations.specs.Permutation.{same_orbit}
 use Rattle.permutations.specs.Relation.{IsEquivalence}
 use Rattle.permutations.specs.Exchange.{exchange}
-use Rattle.permutations.proofs.Members.{member-head, member-tail, member-cases, member-append_left, member-append_right, member-append_cases, distinct-append_apart, distinct-append_left, distinct-append_right}
+use Rattle.permutations.proofs.Members.{member-head, member-tail, member-cases, member-append_left, member-append_right, distinct-append_apart, distinct-append_left, distinct-append_right}
 use Rattle.permutations.proofs.Successor.{first_or-append, successor-cut, successor-member, predecessor-member, successor-predecessor}
 use Rattle.permutations.proofs.Permutations.{exchange-left, exchange-right, exchange-other}
 use Rattle.permutations.proofs.Orbits.{orbit-equivalence, orbit-step, orbit-kept}

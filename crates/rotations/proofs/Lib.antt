@@ -19,3 +19,4 @@ mod Stages
 mod Steps
 pub mod FirstBad
 mod Instances
+mod Zipped

@@ -1,5 +1,5 @@
 -- Membership as a test and as a place, and the edges at a vertex by that test.
-use Rattle.std.proofs.Common.{◌≡◌, ℕ, zero, suc, ◌<◌, Bool, true, false, cond, List, [], ◌∷◌, ◌++◌, refl, sym, ◌∙◌, subst, inl, inr, arith, get_or, ◌≤◌, length, ap, ◌+◌}
+use Rattle.std.proofs.Common.{◌≡◌, ℕ, zero, suc, ◌<◌, Bool, true, false, cond, List, [], ◌∷◌, ◌++◌, refl, sym, ◌∙◌, subst, inl, inr, arith, get_or, ◌≤◌, length, ap}
 use Rattle.std.specs.List.{filter, Contains}
 use Rattle.std.proofs.lemmas.Bool.{cases_Bool, false_from_ne_true, cases_eq, true≢false}
 use Rattle.permutations.specs.Members.{is_member, is_distinct}

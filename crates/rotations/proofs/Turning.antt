@@ -1,22 +1,21 @@
 -- What turning a run, and turning the whole round, does to the order of one vertex.
-use Rattle.std.proofs.Common.{◌≡◌, ◌≢◌, ℕ, ◌<◌, ◌⊎◌, true, false, List, [], ◌∷◌, ◌++◌, length, get_or, reverse, refl, sym, ap, ◌∙◌, subst, inl, inr, arith, append-nil}
+use Rattle.std.proofs.Common.{◌≡◌, ℕ, ◌<◌, ◌⊎◌, true, List, [], ◌∷◌, ◌++◌, length, get_or, reverse, refl, sym, ap, ◌∙◌, subst, inl, inr, arith, append-nil}
 use Rattle.std.specs.List.Sorted.{IsPermutation}
 use Rattle.std.proofs.lemmas.List.{reverse-append}
-use Rattle.std.proofs.lemmas.List.Sorted.{IsPermutation-trans, IsPermutation-reverse, IsPermutation-append_comm}
+use Rattle.std.proofs.lemmas.List.Sorted.{IsPermutation-trans, IsPermutation-append_comm}
 use Rattle.std.proofs.lemmas.Bool.{both_ways}
 use Rattle.permutations.specs.Members.{is_member, is_distinct}
-use Rattle.permutations.specs.Cyclic.{first_or, successor, predecessor, from_least, IsTurn}
+use Rattle.permutations.specs.Cyclic.{first_or, successor, IsTurn}
 use Rattle.permutations.specs.Exchange.{exchange}
 use Rattle.permutations.proofs.Members.{member-head, member-append_left, member-append_right, member-append_cases, member-reverse, distinct-append_left, distinct-append_apart, distinct-reverse}
 use Rattle.permutations.proofs.Arrangements.{permutation-distinct}
 use Rattle.ring_arena.specs.Links.{Links, AreInverse, AreNow, reversed_at}
 use Rattle.rotations.specs.Rotation.{order_at}
 use Rattle.rotations.specs.Rings.{dart_at, orders, AreRings}
-use Rattle.rotations.specs.Runs.{IsRun, IsParted}
+use Rattle.rotations.specs.Runs.{IsParted}
 use Rattle.rotations.specs.declared.rings.Ring.{Ring}
 use Rattle.rotations.proofs.Darts.{dart-edge, dart-injective}
 use Rattle.rotations.proofs.Cycles.{Chain, chain-join, chain-ext, cycle-from, cycle-to, exchange-kept, links-exchanged, run-reversed, others-kept}
-use Rattle.rotations.proofs.Reorder.{IsReordered}
 use Rattle.rotations.proofs.Runs.{parts-distinct, in-order, first-in, first-run, turned-permutation}
 use Rattle.rotations.proofs.Moves.{IsMadeAt, made-at, node, elsewhere, chain-round, reordered, cut-out, cut-stays}
 

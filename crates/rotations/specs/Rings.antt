@@ -1,6 +1,6 @@
 -- A rotation system as it is kept: for each dart the one that follows it around its vertex, and the one that it follows.
 -- Each edge e has two darts: 2e leaves its first end, 2e + 1 its second.
-use Rattle.std.specs.Prelude.{◌≡◌, ℕ, ◌+◌, ◌*◌, ◌/◌, ◌<◌, ◌≤◌, ◌==◌, ◌⊎◌, if◌then◌else◌, true, List, [], ◌∷◌, length, map, slice_index, slice_index_or}
+use Rattle.std.specs.Prelude.{◌≡◌, ℕ, ◌+◌, ◌*◌, ◌/◌, ◌<◌, ◌≤◌, ◌==◌, ◌⊎◌, if◌then◌else◌, true, List, length, map, slice_index, slice_index_or}
 use Rattle.std.specs.List.{All, Contains}
 use Rattle.permutations.specs.Cyclic.{first_or, successor, predecessor}
 use Rattle.permutations.specs.Members.{is_member, is_distinct}

@@ -3,26 +3,28 @@
 ghost use Rattle.std.specs.Prelude.{◌≡◌, ◌+◌, ◌<◌, ◌∷◌, ◌++◌, ◌==◌, ◌↔◌, [], length, is_ok, if◌then◌else◌, IsTrue};
 ghost use Rattle.rotations.specs.Entries.{entry, IsRising, IsAbove, IsReachedAt, list_at};
 
-use multigraph::Numbers;
+use multigraph::FlatLists;
 use std::alloc::{AllocError, Global};
 use std::marker::Model;
 
-/// Entries of a vertex and a list of edges, their vertices strictly increasing.
+/// Entries of a vertex and a list of edges, their vertices strictly increasing. All lists are kept as one.
 #[derive(Debug, Drop)]
 pub struct Lists {
-    alloc: Global,
-    entries: Vec<(u32, Numbers)>,
+    vertices: Vec<u32>,
+    lists: FlatLists<u32>,
 }
 
 impl Model for Lists {
-    ghost use Rattle.std.specs.Prelude.{List, ℕ};
+    ghost use Rattle.std.specs.Prelude.{◌≡◌, List, ℕ, length};
+    ghost use Rattle.std.specs.List.{zip};
     ghost use Rattle.rotations.specs.Entries.{IsRising};
 
     ghost Value = { List (ℕ × List ℕ) };
 
-    ghost view = { λ lists. lists.entries.items };
+    ghost view = { λ l. zip l.vertices.items l.lists };
 
-    ghost invariant = { λ lists. IsRising lists.entries.items };
+    ghost invariant = { λ l. IsRising (zip l.vertices.items l.lists)
+        × (length l.lists ≡ length l.vertices.items) };
 }
 
 impl Lists {
@@ -31,8 +33,8 @@ impl Lists {
         ensures { result ≡ [] }
     {
         Lists {
-            alloc,
-            entries: Vec::new(alloc),
+            vertices: Vec::new(alloc),
+            lists: FlatLists::new(alloc),
         }
     }
 
@@ -40,10 +42,8 @@ impl Lists {
     pub fn is_above(&self, v: u32) -> bool
         ensures { IsTrue result ↔ IsAbove self.now v }
     {
-        match self.entries.last() {
-            Some((last, _)) => *last < v,
-            None => true,
-        }
+        let count = self.len();
+        count == 0 || self.vertex(count - 1) < v
     }
 
     /// Appends an entry of `v` and a copy of `edges`. Fails only if memory runs out; the list is unchanged then.
@@ -51,11 +51,10 @@ impl Lists {
         requires { IsAbove self.old v }
         ensures { self.new ≡ (if is_ok result then self.old ++ (v, edges.now) ∷ [] else self.old) }
     {
-        let edges = Numbers::of(Vec::from_slice(self.alloc, edges)?);
-        match self.entries.push((v, edges)) {
-            Ok(()) => Ok(()),
-            Err(_) => Err(AllocError),
-        }
+        self.vertices.reserve(1)?;
+        self.lists.push(edges)?;
+        self.vertices.push_reserved(v);
+        Ok(())
     }
 
     /// The number of entries.
@@ -63,14 +62,14 @@ impl Lists {
         ensures value { result ≡ length self.now }
         ensures rising { IsRising self.now }
     {
-        self.entries.len()
+        self.vertices.len()
     }
 
     /// Whether there is no entry.
     pub fn is_empty(&self) -> bool
         ensures { result ≡ (length self.now == 0) }
     {
-        self.entries.is_empty()
+        self.len() == 0
     }
 
     /// The vertex of entry `i`, counted from 0.
@@ -78,7 +77,7 @@ impl Lists {
         requires { i < length self.now }
         ensures { result ≡ (entry self.now i).0 }
     {
-        self.entries[i].0
+        self.vertices[i]
     }
 
     /// The edges of entry `i`, counted from 0, in the order given.
@@ -86,7 +85,7 @@ impl Lists {
         requires { i < length self.now }
         ensures { result.now ≡ (entry self.now i).1 }
     {
-        self.entries[i].1.as_slice()
+        self.lists.at(i)
     }
 
     // The list that is given for `v`, and the place of the first entry that is for a larger vertex, where `at` is the place of
@@ -96,8 +95,8 @@ impl Lists {
         ensures list { result.0.now ≡ list_at self.now v }
         ensures place { IsReachedAt self.now result.1 (v + 1) }
     {
-        if at < self.entries.len() && self.entries[at].0 == v {
-            (self.entries[at].1.as_slice(), at + 1)
+        if at < self.len() && self.vertex(at) == v {
+            (self.edges(at), at + 1)
         } else {
             (&[], at)
         }

@@ -1,5 +1,4 @@
 -- Lemmas on the table of what follows each item, and on the walks that fill it.
-pub mod Flat
 pub mod Searched
 mod Nearby
 mod Written

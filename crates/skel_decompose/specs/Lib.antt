@@ -1,4 +1,3 @@
 -- What follows each item around its ends: tables of it, and how far they are filled.
-pub mod Flat
 pub mod Followers
 pub mod Neighbors

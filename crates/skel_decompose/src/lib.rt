@@ -13,7 +13,6 @@
 // recurses. The lists of all nodes are kept as one (`FlatLists`).
 //
 // The lemmas, by their modules in proofs/:
-//   Flat      flat-view, flat-push, piece-of, flat-put: lists kept as one
 //   Searched  searched: a binary search by key; home-own: the item of an edge in its own node
 //   Nearby    near-found: the item of an edge of a neighbor; neighbors-put: neighbors noted
 //   Written   written, kept: what a table has after an entry is written; put-table, put-has, put-keeps

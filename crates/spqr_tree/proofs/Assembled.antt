@@ -9,7 +9,7 @@ use Rattle.skeletons.proofs.Before.{before-transitive}
 use Rattle.multigraph.specs.Graph.{Multigraph, edge_count}
 use Rattle.multigraph.specs.Part.{Rises}
 use Rattle.pair_split.specs.Skeleton.{is_end_of, is_vertex}
-use Rattle.pair_split.specs.Split.{component_at, items_of, item_at, piece_ends, side, skeleton, LinksTo, IsSplit, NoneLinked}
+use Rattle.pair_split.specs.Split.{component_at, items_of, item_at, piece_ends, side, skeleton, IsSplit, NoneLinked}
 use Rattle.pair_split.specs.Tutte.{Node, piece_of, components, node_at, node_item, key_of, is_before, IsInOrder, IsTutte}
 use Rattle.pair_split.specs.declared.components.Kind.{Kind}
 use Rattle.pair_split.specs.declared.components.Kind.TheVariants.{S, P, B}

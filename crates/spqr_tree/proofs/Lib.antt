@@ -38,3 +38,4 @@ pub mod UpLinks
 pub mod Touring
 pub mod Intervals
 pub mod SkeletonMade
+mod NodeLists

@@ -1,5 +1,5 @@
 -- Steps of putting components into groups.
-use Rattle.std.proofs.Common.{◌≡◌, ◌≢◌, ℕ, ◌+◌, ◌<◌, ◌≤◌, ◌⊎◌, ◌==◌, ◌&&◌, inl, inr, Bool, true, false, cond, List, [], ◌∷◌, ◌++◌, reverse, length, take, slice_index_or, refl, sym, ap, ◌∙◌, subst, arith, Contains}
+use Rattle.std.proofs.Common.{◌≡◌, ◌≢◌, ℕ, ◌+◌, ◌<◌, ◌≤◌, ◌⊎◌, ◌==◌, ◌&&◌, inl, inr, Bool, true, cond, List, [], ◌∷◌, ◌++◌, reverse, length, take, slice_index_or, refl, sym, ap, ◌∙◌, subst, arith, Contains}
 use Rattle.std.proofs.lemmas.Bool.{cases_eq, eq-eqb, ne_eqb}
 use Rattle.std.proofs.lemmas.List.{get_or_default, take_more, reverse-append, append_assoc}
 use Rattle.std.proofs.lemmas.List.Elements.{Contains-append_right, Contains-append_left, Contains-append_cases}
@@ -14,7 +14,7 @@ use Rattle.pair_split.proofs.Elements.{contains-here, contains-cases, contains-n
 use Rattle.pair_split.proofs.Links.{no_piece}
 use Rattle.pair_split.proofs.Subtrees.{link-in}
 use Rattle.spqr_tree.specs.Merged.{how_many, is_outer, IsGroup}
-use Rattle.spqr_tree.specs.Merging.{AreLive, MergingState, group_of, IsLed, AreSplit, AreFinished, IsAbsorbed, IsMerging, KeepsLed, with_piece, pieces_left, IsPushed, IsTaken}
+use Rattle.spqr_tree.specs.Merging.{AreLive, MergingState, group_of, IsLed, AreSplit, AreFinished, IsAbsorbed, IsMerging, KeepsLed, with_piece, pieces_left, IsTaken}
 use Rattle.spqr_tree.proofs.LiveSteps.{live-taken}
 use Rattle.spqr_tree.proofs.MergeCounts.{number-cons, number-append, number-all, number-weaker, sum-changed}
 use Rattle.spqr_tree.proofs.JoinedMerging.{group-kept}

@@ -7,3 +7,4 @@ pub mod Assembly
 pub mod Keys
 pub mod Tour
 pub mod Laws
+pub mod NodeLists

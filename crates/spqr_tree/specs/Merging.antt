@@ -1,12 +1,11 @@
 -- State of a loop: the components that are put into groups, one after the other. They are moved, so no list of them is left:
 -- in all that is said here `comps` is the list as it was.
-use Rattle.std.specs.Prelude.{◌≡◌, ◌≢◌, ℕ, ◌+◌, ◌<◌, ◌≤◌, ◌⊎◌, ◌==◌, ◌&&◌, Bool, cond, List, [], ◌∷◌, ◌++◌, reverse, length, slice_index_or, Contains, Some, None}
+use Rattle.std.specs.Prelude.{◌≡◌, ◌≢◌, ℕ, ◌+◌, ◌<◌, ◌≤◌, ◌==◌, ◌&&◌, Bool, cond, List, [], ◌∷◌, ◌++◌, reverse, length, slice_index_or, Contains, Some, None}
 use Rattle.permutations.specs.Count.{sum_below}
 use Rattle.multigraph.specs.Graph.{Multigraph}
 use Rattle.slab.specs.Slab.{Slab, get, Updates}
 use Rattle.pair_split.specs.Split.{component_at, items_of, IsSplit}
 use Rattle.pair_split.specs.declared.components.Kind.{Kind}
-use Rattle.pair_split.specs.declared.components.Kind.TheVariants.{S, P}
 use Rattle.pair_split.specs.declared.components.What.TheVariants.{Link}
 use Rattle.pair_split.specs.declared.components.Piece.{Piece}
 use Rattle.pair_split.specs.declared.components.Comp.{Comp}

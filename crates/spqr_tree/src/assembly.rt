@@ -5,39 +5,17 @@ ghost use Rattle.graph_theory.specs.Block.{IsOneBlock};
 ghost use Rattle.pair_split.specs.Split.{items_of, IsSplit};
 ghost use Rattle.pair_split.specs.Tutte.{IsTutte};
 ghost use Rattle.spqr_tree.specs.Ranking.{ranks_of};
-ghost use Rattle.spqr_tree.specs.Assembly.{IsArranged, IsMadeOf, AreNodes};
-ghost use Rattle.spqr_tree.specs.Keys.{nth_item, parent_at, link_key, AreWithin, AreApart, IsRooted, HaveKeys};
+ghost use Rattle.spqr_tree.specs.Assembly.{IsArranged, AreNodes};
+ghost use Rattle.spqr_tree.specs.Keys.{parent_at, AreWithin, AreApart, IsRooted, HaveKeys};
 
 use crate::arranging::arrange;
-use crate::keys::{items_by_key, parents_and_least};
-use crate::lists::ItemList;
+use crate::keys::{parents_and_least, sort_items};
+use crate::nodes::Nodes;
 use crate::tour::tour_of;
-use crate::tree::{Tree, TreeNode};
-use multigraph::{Graph, Numbers};
+use crate::tree::Tree;
+use multigraph::Graph;
 use pair_split::{Comp, Comps};
 use std::alloc::{AllocError, Global};
-
-// The node of a component with these vertices.
-fn node_of(
-    alloc: Global,
-    comp: &Comp,
-    vertices: &[u32],
-    parent: u32,
-    least: &[u32],
-) -> Result<TreeNode, AllocError>
-    requires within { AreWithin comp.now.items (length least.now) }
-    requires apart { AreApart parent least.now comp.now.items }
-    ensures node { IfOk result (λ node. IsMadeOf comp.now vertices.now node) }
-    ensures keys { IfOk result (λ node. (i : ℕ) → i < length node.items
-        → (nth_item node.items i).key ≡ link_key parent least.now (nth_item node.items i).what) }
-{
-    let items = items_by_key(alloc, comp.items.as_slice(), parent, least)?;
-    Ok(TreeNode {
-        kind: comp.kind,
-        vertices: Numbers::of(Vec::from_slice(alloc, vertices)?),
-        items: ItemList::of(items),
-    })
-}
 
 // The nodes of the components, in their order.
 fn nodes_of(
@@ -46,19 +24,22 @@ fn nodes_of(
     ranks: &[(Vec<u32>, u32)],
     parents: &[u32],
     least: &[u32],
-) -> Result<Vec<TreeNode>, AllocError>
+) -> Result<Nodes, AllocError>
     requires number { length ranks.now ≡ length comps.now }
     requires places { length parents.now ≡ length comps.now }
     requires within { (k : ℕ) → k < length comps.now
         → AreWithin (items_of comps.now k) (length least.now) }
     requires apart { (k : ℕ) → k < length comps.now
         → AreApart (parent_at parents.now k) least.now (items_of comps.now k) }
-    ensures nodes { IfOk result (λ nodes. AreNodes comps.now (ranks_of ranks.now) nodes.items) }
-    ensures keys { IfOk result (λ nodes. HaveKeys parents.now least.now nodes.items) }
+    ensures nodes { IfOk result (λ nodes. AreNodes comps.now (ranks_of ranks.now) nodes) }
+    ensures keys { IfOk result (λ nodes. HaveKeys parents.now least.now nodes) }
 {
-    let mut nodes = Vec::with_capacity(alloc, comps.len())?;
+    let mut nodes = Nodes::with_capacity(alloc, comps.len())?;
+    let mut items = Vec::new(alloc);
     for k in 0..comps.len() {
-        nodes.push(node_of(alloc, &comps[k], ranks[k].0.as_slice(), parents[k], least)?)?;
+        let comp = &comps[k];
+        sort_items(&mut items, comp.items.as_slice(), parents[k], least)?;
+        nodes = nodes.with(comp.kind, ranks[k].0.as_slice(), &items)?;
     }
     Ok(nodes)
 }

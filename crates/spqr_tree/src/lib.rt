@@ -22,15 +22,14 @@ mod arranging;
 mod assembly;
 mod keys;
 pub mod laws;
-mod lists;
 mod merging;
 mod naming;
+mod nodes;
 mod ranking;
 mod skeleton;
 mod tour;
 mod tree;
 
-pub use lists::ItemList;
 pub use pair_split::{Item, Kind, What};
 pub use tree::Tree;
 

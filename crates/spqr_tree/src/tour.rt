@@ -4,15 +4,15 @@
 
 ghost use Rattle.std.specs.Prelude.{◌≡◌, ◌+◌, ◌<◌, ◌^◌, ℕ, true, false, length, slice_set, IfOk};
 ghost use Rattle.multigraph.specs.Graph.{Multigraph, edge_count};
-ghost use Rattle.pair_split.specs.Tutte.{node_at, IsTutte};
+ghost use Rattle.pair_split.specs.Tutte.{IsTutte};
 ghost use Rattle.pair_split.specs.declared.components.What.TheVariants.{Real};
 ghost use Rattle.spqr_tree.specs.Tour.{what_at, bound_count, AreToured, HasBegun, IsTouring, noted, tour_left};
 ghost use Rattle.spqr_tree.specs.Absent.{absent};
 
 use crate::ABSENT;
-use crate::tree::TreeNode;
+use crate::nodes::Nodes;
 use multigraph::Numbers;
-use pair_split::{Item, What};
+use pair_split::What;
 use std::alloc::{AllocError, Global};
 use std::marker::Model;
 
@@ -38,46 +38,40 @@ impl Model for Tour {
     } };
 }
 
-// The items of node k.
-fn items_at(nodes: &[TreeNode], k: u32) -> &[Item]
-    requires { k < length nodes.now }
-    ensures { result.now ≡ (node_at nodes.now k).items }
-{
-    let node = &nodes[k as usize];
-    node.items.as_slice()
-}
-
 // The node whose first item is edge 0.
-fn root_of(nodes: &[TreeNode]) -> u32
+fn root_of(nodes: &Nodes) -> u32
     requires { (g : Multigraph) × IsTutte g nodes.now × (0 < edge_count g)
         × (length nodes.now < 2 ^ 32) }
     ensures within { result < length nodes.now }
     ensures first { what_at nodes.now result 0 ≡ Real 0 }
 {
     for k in 0..nodes.len() as u32 {
-        if items_at(nodes, k)[0].what == What::Real(0) {
+        if nodes.items(k)[0].what == What::Real(0) {
             return k;
         }
     }
     unreachable!()
 }
 
-// Empty lists, this many.
-fn empty_lists(alloc: Global, n: usize) -> Result<Vec<Numbers>, AllocError>
-    ensures number { IfOk result (λ lists. length lists.items ≡ n) }
+// An empty list for each node, with room for its bounds.
+fn empty_lists(alloc: Global, nodes: &Nodes) -> Result<Vec<Numbers>, AllocError>
+    requires { length nodes.now < 2 ^ 32 }
+    ensures number { IfOk result (λ lists. length lists.items ≡ length nodes.now) }
     ensures empty { IfOk result (λ lists. (k : ℕ) → bound_count lists.items k ≡ 0) }
 {
-    let mut lists = Vec::with_capacity(alloc, n)?;
-    for _list in 0..n {
-        lists.push(Numbers::empty(alloc))?;
+    let mut lists = Vec::with_capacity(alloc, nodes.len())?;
+    for k in 0..nodes.len() as u32 {
+        let room = Vec::with_capacity(alloc, nodes.items(k).len())?;
+        lists.push(Numbers::of(room))?;
     }
     Ok(lists)
 }
 
 impl Tour {
     // The walk is at the root, and has visited edge 0.
-    fn new(alloc: Global, nodes: &[TreeNode], m: u32, root: u32) -> Result<Tour, AllocError>
-        requires { 0 < m }
+    fn new(alloc: Global, nodes: &Nodes, m: u32, root: u32) -> Result<Tour, AllocError>
+        requires some { 0 < m }
+        requires few { length nodes.now < 2 ^ 32 }
         ensures { IfOk result (HasBegun nodes.now m root) }
     {
         let mut places = vec![in alloc; ABSENT; m as usize]?;
@@ -86,7 +80,7 @@ impl Tour {
             at: root,
             met: 1,
             places,
-            bounds: empty_lists(alloc, nodes.len())?,
+            bounds: empty_lists(alloc, nodes)?,
         })
     }
 
@@ -128,7 +122,7 @@ impl Tour {
     }
 
     // Notes a bound of the node, and enters its next item, or leaves it where no item is left; whether the walk is at its end.
-    fn step(&mut self, nodes: &[TreeNode]) -> Result<bool, AllocError>
+    fn step(&mut self, nodes: &Nodes) -> Result<bool, AllocError>
         requires tree { (g : Multigraph) × IsTutte g nodes.now × (0 < edge_count g) }
         requires touring { IsTouring nodes.now self.old }
         ensures touring { IfOk result (λ done. done ≡ false → IsTouring nodes.now self.new) }
@@ -138,7 +132,7 @@ impl Tour {
             → AreToured nodes.now self.new.places self.new.bounds) }
     {
         self.note()?;
-        let items = items_at(nodes, self.at);
+        let items = nodes.items(self.at);
         let next = self.next();
         if next < items.len() {
             match items[next].what {
@@ -158,7 +152,7 @@ impl Tour {
 }
 
 // The places of the m edges, and the bounds of the nodes.
-pub(crate) fn tour_of(alloc: Global, nodes: &[TreeNode], m: u32) -> Result<Tour, AllocError>
+pub(crate) fn tour_of(alloc: Global, nodes: &Nodes, m: u32) -> Result<Tour, AllocError>
     requires tree { (g : Multigraph) × IsTutte g nodes.now × (0 < edge_count g)
         × (m ≡ edge_count g) }
     requires few { length nodes.now < 2 ^ 32 }

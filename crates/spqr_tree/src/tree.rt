@@ -5,38 +5,18 @@ ghost use Rattle.std.specs.List.Sorted.{IsNonDecreasingBy};
 ghost use Rattle.multigraph.specs.Graph.{Multigraph, IsGraph, edge_count};
 ghost use Rattle.pair_split.specs.Tutte.{node_at, group, IsTutte};
 
-use crate::lists::ItemList;
+use crate::nodes::Nodes;
 use multigraph::Numbers;
 use pair_split::{Item, Kind};
 use std::alloc::{AllocError, Global};
 use std::marker::Model;
-
-// A node of the tree: its kind, its vertices and its items.
-#[derive(Debug, Drop)]
-pub(crate) struct TreeNode {
-    pub(crate) kind: Kind,
-    pub(crate) vertices: Numbers,
-    pub(crate) items: ItemList,
-}
-
-impl Model for TreeNode {
-    ghost use Rattle.pair_split.specs.Tutte.{Node};
-
-    ghost Value = { Node };
-
-    ghost view = { λ node. record {
-      kind = node.kind;
-      vertices = node.vertices;
-      items = node.items;
-    } };
-}
 
 /// The tree of a block: its nodes, in lexicographic order of their vertices. In contracts it is the list of the nodes.
 ///
 /// Beside the nodes it keeps the places of the edges on a walk around the tree, and between which of them each group is.
 #[derive(Debug, Drop)]
 pub struct Tree {
-    pub(crate) nodes: Vec<TreeNode>,
+    pub(crate) nodes: Nodes,
     pub(crate) places: Vec<u32>,
     pub(crate) bounds: Vec<Numbers>,
 }
@@ -48,10 +28,10 @@ impl Model for Tree {
 
     ghost Value = { List Node };
 
-    ghost view = { λ tree. tree.nodes.items };
+    ghost view = { λ tree. tree.nodes };
 
-    ghost invariant = { λ tree. (length tree.nodes.items < 2 ^ 32)
-        × AreToured tree.nodes.items tree.places.items tree.bounds.items };
+    ghost invariant = { λ tree. (length tree.nodes < 2 ^ 32)
+        × AreToured tree.nodes tree.places.items tree.bounds.items };
 }
 
 impl Tree {
@@ -67,7 +47,7 @@ impl Tree {
         requires { k < length self.now }
         ensures { result ≡ (node_at self.now k).kind }
     {
-        self.nodes[k as usize].kind
+        self.nodes.kind(k)
     }
 
     /// The vertices of node `k`, in increasing order.
@@ -75,7 +55,7 @@ impl Tree {
         requires { k < length self.now }
         ensures { result.now ≡ (node_at self.now k).vertices }
     {
-        self.nodes[k as usize].vertices.as_slice()
+        self.nodes.vertices(k)
     }
 
     /// The items of node `k`, in order of their keys.
@@ -83,7 +63,7 @@ impl Tree {
         requires { k < length self.now }
         ensures { result.now ≡ (node_at self.now k).items }
     {
-        self.nodes[k as usize].items.as_slice()
+        self.nodes.items(k)
     }
 
     /// The key of the item of node `k` that is edge `e` or has `e` beyond it. Takes no memory; a binary search among the items.
@@ -105,12 +85,8 @@ impl Tree {
     pub fn copy(&self, alloc: Global) -> Result<Tree, AllocError>
         ensures { IfOk result (λ tree. tree ≡ self.now) }
     {
-        let mut nodes = Vec::with_capacity(alloc, self.nodes.len())?;
-        for node in self.nodes.iter() {
-            nodes.push(node.copy(alloc)?)?;
-        }
         Ok(Tree {
-            nodes,
+            nodes: self.nodes.copy(alloc)?,
             places: Vec::from_slice(alloc, &self.places)?,
             bounds: copy_lists(alloc, &self.bounds)?,
         })
@@ -137,17 +113,4 @@ fn copy_lists(alloc: Global, lists: &[Numbers]) -> Result<Vec<Numbers>, AllocErr
         copies.push(list.copy(alloc)?)?;
     }
     Ok(copies)
-}
-
-impl TreeNode {
-    // A copy of the node.
-    fn copy(&self, alloc: Global) -> Result<TreeNode, AllocError>
-        ensures { IfOk result (λ node. node ≡ self.now) }
-    {
-        Ok(TreeNode {
-            kind: self.kind,
-            vertices: self.vertices.copy(alloc)?,
-            items: self.items.copy(alloc)?,
-        })
-    }
 }

@@ -1,6 +1,4 @@
-use Rattle.std.proofs.Common.{ℕ, Bool, true, false, refl, sym, ap, ◌∙◌, inl, inr, ◌≡◌, arith}
-use Rattle.multigraph.specs.Graph.{Multigraph, edge_count, is_end, is_edge_at, incident_edges}
-use Rattle.permutations.specs.Members.{is_member}
+use Rattle.std.proofs.Common.{refl, sym, ◌∙◌, inl}
 use Rattle.rotations.proofs.Membership.{is_edge_at-no, is_edge_at-member}
 use Rattle.rotations.proofs.arrangement.is_new.Goals as goal
 

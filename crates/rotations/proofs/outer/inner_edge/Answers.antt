@@ -1,5 +1,5 @@
 use Rattle.std.proofs.Common.{refl, sym, ap, ◌∙◌}
-use Rattle.multigraph.specs.Graph.{Multigraph, edge_count}
+use Rattle.multigraph.specs.Graph.{edge_count}
 use Rattle.rotations.proofs.PartEdges.{place-found, place-none}
 use Rattle.rotations.proofs.outer.inner_edge.Goals as goal
 

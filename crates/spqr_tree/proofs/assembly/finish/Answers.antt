@@ -1,5 +1,4 @@
-use Rattle.std.proofs.Common.{List, subst, sym, ◌∙◌}
-use Rattle.pair_split.specs.Tutte.{Node, IsTutte}
+use Rattle.std.proofs.Common.{sym, ◌∙◌}
 use Rattle.pair_split.proofs.GraphFamily.{one_block-tight}
 use Rattle.std.proofs.lemmas.List.{length-map}
 use Rattle.spqr_tree.specs.Ranking.{rank_of, ranks_of}
@@ -20,10 +19,10 @@ nodes_of-requires-clause-apart c = λ k l. rooted-apart c.args.g.now c.args.comp
 pub tour_of-requires-clause-tree : goal.tour_of-requires-clause-tree
 tour_of-requires-clause-tree c = (
   c.args.g.now,
-  subst (λ (t : List Node). IsTutte c.args.g.now t) (sym c.deref.ensures.value) (tutte-made c.args.g.now c.args.comps.now (ranks_of c.args.ranks.now) c.args.parents.now c.args.least.now c.in_ok-nodes.nodes.items c.requires.block c.requires.arranged c.requires.rooted c.in_ok-nodes.ensures.nodes c.in_ok-nodes.ensures.keys),
+  (tutte-made c.args.g.now c.args.comps.now (ranks_of c.args.ranks.now) c.args.parents.now c.args.least.now c.in_ok-nodes.nodes c.requires.block c.requires.arranged c.requires.rooted c.in_ok-nodes.ensures.nodes c.in_ok-nodes.ensures.keys),
   c.requires.block.has_edge,
   c.edge_count.ensures.value,
 )
 
 pub returns : goal.returns
-returns c = tutte-made c.args.g.now c.args.comps.now (ranks_of c.args.ranks.now) c.args.parents.now c.args.least.now c.in_ok-nodes.nodes.items c.requires.block c.requires.arranged c.requires.rooted c.in_ok-nodes.ensures.nodes c.in_ok-nodes.ensures.keys
+returns c = tutte-made c.args.g.now c.args.comps.now (ranks_of c.args.ranks.now) c.args.parents.now c.args.least.now c.in_ok-nodes.nodes c.requires.block c.requires.arranged c.requires.rooted c.in_ok-nodes.ensures.nodes c.in_ok-nodes.ensures.keys
