@@ -5,7 +5,7 @@ use Rattle.std.proofs.lemmas.Bool.{cases_Bool, ltb-true, lt-ltb, true≢false}
 use Rattle.std.proofs.lemmas.List.{length-map}
 use Rattle.spqr_session.specs.Trees.{BlockTree, tree_at}
 use Rattle.spqr_session.specs.State.{Embedding, State, entry_at}
-use Rattle.spqr_session.specs.Codes.{code_text, Ladder, rises_above, first_code}
+use Rattle.spqr_session.specs.Codes.{Ladder, rises_above, first_code}
 use Rattle.spqr_session.specs.BlockCodes.{is_block, is_planar, block_ladder, of_entry, ReadsBlock, read_ladder, ReadStep, Answered, TellsBlock}
 use Rattle.spqr_session.specs.Embedded.{BlockView, view_tree, view_entry, view_at}
 use Rattle.spqr_session.specs.declared.code.Code.{Code}
@@ -101,10 +101,6 @@ module _ (more : BlockTree → Embedding → Ladder) (rising : (tree : BlockTree
       let there = block-entry trees b s front in
       (there.0, (there.1.0, there.1.1, sym (ap (λ (o : Option Embedding). first_code (of_entry (more (tree_at trees b)) o)) there.1.1) ∙ sym (first-behind (block_ladder trees b s) rest front) ∙ n))
 
-  -- there is no such block
-  pub read-no_block : (text : List ℕ) → length trees ≤ b → text ≡ code_text NoBlock → ReadStep more IsAbout trees b s text s
-  read-no_block text l e = refused-first ladder read-rises (ReadsBlock trees b IsAbout) s NoBlock text (no-block trees b s (of_entry (more (tree_at trees b)) (entry_at s.present b)) l) e
-
   -- what is told of a block that is there
   pub tells-block : (o : Option Embedding) (text : List ℕ) → b < length trees → entry_at s.present b ≡ o → TellsBlock (tree_at trees b) o more IsAbout text → ReadStep more IsAbout trees b s text s
   tells-block None text l p t = refused-first ladder read-rises (ReadsBlock trees b IsAbout) s NonPlanar text (no-entry trees b s (of_entry (more (tree_at trees b)) (entry_at s.present b)) l p) t
@@ -151,10 +147,3 @@ block-read {E = E} more rising IsAbout views b v r l at told s present =
     (ap (λ (es : List (Option Embedding)). slice_index_or es b None) present ∙ entries-at views b)
     (subst (λ (x : BlockTree). TellsBlock x (view_at views b).entry more IsAbout text) (sym (trees-at views b)) (subst (λ (x : BlockView). TellsBlock x.tree x.entry more IsAbout text) at t)))
     told
-
--- the line of code 1 is the answer where there is no block at the place
-pub block-missed : {E : Type 0} (more : BlockTree → Embedding → Ladder) (rising : (tree : BlockTree) (e : Embedding) → rises_above 5 (more tree e) ≡ true) (IsAbout : BlockTree → Embedding → List ℕ → Type 0) (views : List BlockView) (b : ℕ)
-    (r : Result (Vec ℕ) E) → length views ≤ b → IfOk r (λ text. text.items ≡ code_text NoBlock) → (s : State) → IfOk r (λ text. ReadStep more IsAbout (map view_tree views) b s text.items s)
-block-missed {E = E} more rising IsAbout views b r l line s =
-    text-map r (λ text. text ≡ code_text NoBlock) (λ text. ReadStep more IsAbout (map view_tree views) b s text s)
-    (λ text e. read-no_block more rising IsAbout (map view_tree views) b s text (omega (arith, l, length-map views view_tree)) e) line

@@ -1,16 +1,13 @@
 -- Commands that name a component: the codes of their ladder, that they do one thing, and what they leave.
-use Rattle.std.proofs.Common.{◌≡◌, ℕ, ◌<◌, ◌≤◌, Bool, true, false, not, ◌&&◌, List, [], ◌∷◌, Option, None, Some, Result, IfOk, inl, inr, refl, sym, ap, ◌∙◌, subst, arith}
-use Rattle.std.specs.Prelude.{nat_lt}
-use Rattle.std.specs.Global.{Vec}
-use Rattle.std.proofs.lemmas.Bool.{cases_Bool, ltb-true, lt-ltb, true≢false, false_from_ne_true}
-use Rattle.spqr_session.specs.Setting.{Setting, IsSetting}
-use Rattle.spqr_session.specs.State.{Family, State, arrangements_in, IsFamily, IsState, is_planar_component}
-use Rattle.spqr_session.specs.Codes.{code_text, Ladder, Applies, Carries, rises_above, first_code}
+use Rattle.std.proofs.Common.{◌≡◌, ℕ, ◌<◌, ◌≤◌, Bool, true, false, not, ◌&&◌, List, [], ◌∷◌, None, Some, inl, inr, refl, sym, ap, ◌∙◌, subst, arith}
+use Rattle.std.proofs.lemmas.Bool.{ltb-true, lt-ltb, true≢false, false_from_ne_true}
+use Rattle.spqr_session.specs.Setting.{Setting}
+use Rattle.spqr_session.specs.State.{State, arrangements_in, IsFamily, IsState, is_planar_component}
+use Rattle.spqr_session.specs.Codes.{Ladder, Applies, Carries, rises_above, first_code}
 use Rattle.spqr_session.specs.Components.{is_component, component_ladder, ReadsComponent}
-use Rattle.spqr_session.specs.declared.code.Code.{Code}
 use Rattle.spqr_session.specs.declared.code.Code.TheVariants.{NonPlanar, NoComponent}
 use Rattle.spqr_session.proofs.Carried.{DoesOne}
-use Rattle.spqr_session.proofs.Ladders.{rung-hit, rung-missed, rung-none, refused-first, carried-out, ladder-answers, ladder-one}
+use Rattle.spqr_session.proofs.Ladders.{rung-hit, rung-missed, rung-none, ladder-answers, ladder-one}
 use Rattle.spqr_session.proofs.ComponentParts.{family-lists}
 
 module _ (setting : Setting) (c : ℕ) where

@@ -27,6 +27,7 @@ pub mod TakeCarried
 pub mod ConvertCarried
 mod CountSteps
 pub mod Planes
+pub mod PlanarBlocks
 pub mod MoveVerdicts
 pub mod InnerKeys
 pub mod PermuteVerdicts

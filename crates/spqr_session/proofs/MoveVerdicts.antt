@@ -1,5 +1,5 @@
 -- The codes that apply to moves and mirror images of a block.
-use Rattle.std.proofs.Common.{◌≡◌, ℕ, ◌<◌, Bool, true, false, not, ◌&&◌, List, [], ◌∷◌, length, Option, None, Some, refl, sym, ap, ◌∙◌, subst}
+use Rattle.std.proofs.Common.{◌≡◌, ℕ, ◌<◌, true, false, not, ◌&&◌, List, [], ◌∷◌, length, Option, None, Some, refl, sym, ap, ◌∙◌, subst}
 use Rattle.permutations.specs.Count.{some, least}
 use Rattle.permutations.proofs.Search.{least-is, some-from, none-some}
 use Rattle.pair_split.specs.Tutte.{Node, node_at}

@@ -7,7 +7,7 @@ use Rattle.skeletons.specs.Items.{IsBlockTree}
 use Rattle.skeletons.specs.Lists.{IsKeptList, IsRank}
 use Rattle.skel_embed.specs.Block.{BlockState, lock_at}
 use Rattle.skel_embed.specs.declared.planes.Outcome.{Outcome}
-use Rattle.skel_embed.specs.declared.planes.Outcome.TheVariants.{Plane, Not}
+use Rattle.skel_embed.specs.declared.planes.Outcome.TheVariants.{Plane}
 use Rattle.embed_enum.specs.Walk.{IsMemberList}
 use Rattle.spqr_script.specs.Answers.Count.{count_text}
 use Rattle.spqr_script.specs.Answers.Rank.{rank_text}
@@ -47,10 +47,6 @@ seen-plane v o p view is e =
       tree = subst (IsBlockTree v.tree.part.graph) (ap (λ (x : BlockView). x.tree.nodes) seen) plane.tree;
       right = subst (λ (t : BlockTree). IsEntry t None (Some (seen_embedding p))) (ap (λ (x : BlockView). x.tree) seen) plane.entry;
     }
-
--- a block that is not is seen without an entry
-pub seen-not : (v : BlockView) (o : Outcome) (g : Multigraph) (t : List Node) (s : _) → block_view v.tree.part o ≡ v → o ≡ Not g t s → v.entry ≡ None
-seen-not v o g t s view e = sym (ap (λ (x : BlockView). x.entry) (ap (block_view v.tree.part) (sym e) ∙ view))
 
 module _ (v : BlockView) (p : BlockState) (seen : SeenPlane v p) where
   abbrev here : Embedding

@@ -1,5 +1,5 @@
 -- `regroup`: it has one answer, and leads from a state to a state.
-use Rattle.std.proofs.Common.{◌≡◌, ℕ, ◌<◌, Bool, true, List, [], length, slice_index, slice_index_or, slice_set, Option, None, Some, inl, inr, refl, sym, ap, ◌∙◌, subst, arith, Contains, set}
+use Rattle.std.proofs.Common.{◌≡◌, ℕ, ◌<◌, Bool, true, List, [], slice_index, slice_index_or, slice_set, Option, None, inl, inr, refl, sym, ◌∙◌, subst, arith, Contains}
 use Rattle.std.proofs.lemmas.Bool.{cases_eq}
 use Rattle.std.proofs.lemmas.List.{length-set, get_or-set_same, get_or-set_other}
 use Rattle.std.proofs.lemmas.List.Elements.{All-cons, All-nil}

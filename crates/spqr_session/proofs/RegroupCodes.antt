@@ -1,11 +1,10 @@
 -- The codes of `regroup`: which is the lowest that applies, and that a list that no code refuses is an arrangement.
-use Rattle.std.proofs.Common.{◌≡◌, ℕ, ◌<◌, ◌≤◌, ◌⊎◌, inl, inr, Bool, true, false, List, length, refl, sym, ap, ◌∙◌, subst, arith, Contains, IsPermutation}
+use Rattle.std.proofs.Common.{◌≡◌, ℕ, ◌<◌, ◌≤◌, ◌⊎◌, inl, inr, Bool, true, false, List, refl, sym, ap, ◌∙◌, subst, arith, Contains, IsPermutation}
 use Rattle.std.proofs.lemmas.Bool.{cases_Bool, cases_lt, cases_order, true≢false}
 use Rattle.permutations.specs.Members.{is_member}
 use Rattle.permutations.specs.Cyclic.{from_least}
 use Rattle.permutations.proofs.NormalForm.{from_least-member}
 use Rattle.multigraph.specs.Graph.{incident_edges}
-use Rattle.multigraph.specs.Part.{Rises}
 use Rattle.rotations.proofs.Membership.{incident-distinct}
 use Rattle.gml_graph.specs.Arranged.{is_arrangement}
 use Rattle.gml_graph.proofs.Arranged.{arranged-passes, passes-arranged}
@@ -18,7 +17,7 @@ use Rattle.whole_embed.specs.Around.{edges_around, block_with, block_order, arra
 use Rattle.whole_embed.proofs.Assembly.{assembled}
 use Rattle.whole_embed.proofs.Reasons.{around-order}
 use Rattle.spqr_session.specs.Setting.{Setting, IsSetting}
-use Rattle.spqr_session.specs.State.{Family, State, component_at, is_planar_component}
+use Rattle.spqr_session.specs.State.{State, component_at, is_planar_component}
 use Rattle.spqr_session.specs.Codes.{code_number, code_numbers, IsLowest, NoneApplies}
 use Rattle.spqr_session.specs.Components.{blocks_of}
 use Rattle.spqr_session.specs.Commands.Regroup.{component_number, OrdersEdges, KeepsOrders, RegroupApplies}

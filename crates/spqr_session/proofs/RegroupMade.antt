@@ -1,23 +1,19 @@
 -- What `regroup` finds of a list, and what it makes of the board.
-use Rattle.std.proofs.Common.{◌≡◌, ℕ, ◌<◌, ◌≤◌, Bool, true, false, List, [], length, map, slice_index, slice_index_or, slice_set, Option, None, Some, inl, inr, refl, sym, ap, ◌∙◌, subst, arith, Contains, IsPermutation}
+use Rattle.std.proofs.Common.{◌≡◌, ℕ, ◌<◌, ◌≤◌, true, false, List, length, map, slice_set, Some, inl, inr, sym, ap, ◌∙◌, subst, arith, Contains, IsPermutation}
 use Rattle.std.proofs.lemmas.Bool.{cases_Bool}
-use Rattle.std.proofs.lemmas.List.{get_or-set_same}
 use Rattle.std.proofs.lemmas.List.Sorted.{IsPermutation-sym, IsPermutation-trans}
-use Rattle.permutations.specs.Members.{is_member, place_of}
+use Rattle.permutations.specs.Members.{is_member}
 use Rattle.permutations.specs.Cyclic.{first_or, least_or, from_least}
 use Rattle.permutations.proofs.Turned.{turned-permutation}
-use Rattle.permutations.proofs.Places.{place-below}
-use Rattle.multigraph.specs.Graph.{Multigraph, incident_edges}
 use Rattle.whole_embed.specs.declared.members.Member.{Member}
 use Rattle.whole_embed.specs.declared.faults.RegroupFault.TheVariants as fault
-use Rattle.whole_embed.specs.Component.{Component, BlockInPlane, IsComponentInPlane}
+use Rattle.whole_embed.specs.Component.{Component, BlockInPlane}
 use Rattle.whole_embed.specs.Around.{edges_around, arrangements_around}
 use Rattle.whole_embed.specs.Cuts.{CutState, blocks_in, IsRegroupRefusal}
-use Rattle.spqr_script.specs.Answers.Change.{ok_text}
 use Rattle.spqr_session.specs.Setting.{Setting, IsSetting}
-use Rattle.spqr_session.specs.State.{Embedding, Family, State, IsFamily, IsState, component_at, is_planar_component, blocks_with}
-use Rattle.spqr_session.specs.Kept.{Kept, family_of}
-use Rattle.spqr_session.specs.Codes.{IsLowest, NoneApplies}
+use Rattle.spqr_session.specs.State.{State, component_at, is_planar_component}
+use Rattle.spqr_session.specs.Kept.{family_of}
+use Rattle.spqr_session.specs.Codes.{IsLowest}
 use Rattle.spqr_session.specs.BlockCodes.{with_family}
 use Rattle.spqr_session.specs.Board.{BoardView, kept_now, board_state, GoesTo, HavePlaces}
 use Rattle.spqr_session.specs.Components.{blocks_of}

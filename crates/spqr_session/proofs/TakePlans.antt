@@ -1,5 +1,5 @@
 -- The plans of taking lists in: for a block that is seen in the plane, for one that is not, and for a block among others.
-use Rattle.std.proofs.Common.{◌≡◌, ℕ, ◌<◌, ◌≤◌, List, length, map, Option, None, refl, sym, ap, ◌∙◌, subst, arith}
+use Rattle.std.proofs.Common.{◌≡◌, ℕ, ◌<◌, List, length, map, Option, sym, ap, ◌∙◌, subst, arith}
 use Rattle.std.proofs.lemmas.List.{length-map}
 use Rattle.multigraph.specs.Graph.{Multigraph}
 use Rattle.multigraph.specs.Part.{GraphPart, IsNumbered}
@@ -11,16 +11,15 @@ use Rattle.skel_embed.specs.Taken as taken
 use Rattle.spqr_session.specs.Trees.{BlockTree}
 use Rattle.spqr_session.specs.State.{Embedding, State}
 use Rattle.spqr_session.specs.Embedded.{BlockView, view_tree, view_entry, view_at}
-use Rattle.spqr_session.specs.Codes.{IsLowest, NoneApplies}
+use Rattle.spqr_session.specs.Codes.{NoneApplies}
 use Rattle.spqr_session.specs.Commands.Take.{IsLockedOut, TakeApplies, IsTaken}
 use Rattle.spqr_session.specs.Planned.{embedding_of, IsLowestPlan, IsLowestPlanAt, TakenCodes, EntryTakenCodes, IsTakePlan}
-use Rattle.spqr_session.specs.declared.code.Code.TheVariants.{NoBlock, NonPlanar}
 use Rattle.spqr_session.specs.declared.planned.Planned.{Planned}
 use Rattle.spqr_session.specs.declared.planned.Planned.TheVariants.{Refused, End, Change}
 use Rattle.spqr_session.proofs.Views.{trees-at}
 use Rattle.spqr_session.proofs.Plans.{present-at}
 use Rattle.spqr_session.proofs.Planes.{seen_embedding, SeenPlane}
-use Rattle.spqr_session.proofs.Takings.{entry-alone, taken-none, entry-down, entry-lowest, alone-lowest, outside-lowest}
+use Rattle.spqr_session.proofs.Takings.{entry-alone, taken-none, entry-down, entry-lowest, alone-lowest}
 
 -- a refusal by a locked node, in the words of the session
 pub locked-out : (entries : List (ℕ × List ℕ)) (part : GraphPart) (p : BlockState) (k : ℕ) → taken.IsLockedOut p part entries k → IsLockedOut (record { part = part; nodes = p.tree }) entries (embedding_of p) k
@@ -47,10 +46,6 @@ taken-plane entries part p q g rest state given keeps =
     )
 
 module _ (entries : List (ℕ × List ℕ)) (v : BlockView) where
-  -- a block that is not planar is refused by code 5
-  pub not-planned : v.entry ≡ None → IsLowestPlan (EntryTakenCodes entries v.tree v.entry) (IsTaken entries) v (Refused NonPlanar)
-  not-planned e = subst (λ (o : Option Embedding). IsLowest (EntryTakenCodes entries v.tree o) NonPlanar) (sym e) (alone-lowest (EntryTakenCodes entries v.tree None) NonPlanar refl (λ other a. a))
-
   module _ (p : BlockState) (seen : SeenPlane v p) (numbered : IsNumbered v.tree.part) where
     abbrev here : Embedding
     here = seen_embedding p
@@ -74,10 +69,6 @@ module _ (entries : List (ℕ × List ℕ)) (v : BlockView) where
 -- ---- from the block to the blocks
 
 module _ (entries : List (ℕ × List ℕ)) (views : List BlockView) (b : ℕ) (s : State) (present : s.present.entries ≡ map view_entry views) where
-  -- there is no such block
-  pub take-missed : length views ≤ b → IsLowestPlanAt (TakeApplies (map view_tree views) b entries s) (IsTaken entries) views b (Refused NoBlock)
-  take-missed l = outside-lowest entries (map view_tree views) b s (omega (arith, l, length-map views view_tree))
-
   -- the block that is found at its place
   pub take-found : (v : BlockView) (planned : Planned) → b < length views → v ≡ view_at views b → IsLowestPlan (EntryTakenCodes entries v.tree v.entry) (IsTaken entries) v planned
       → IsLowestPlanAt (TakeApplies (map view_tree views) b entries s) (IsTaken entries) views b planned

@@ -1,6 +1,6 @@
 -- Lists set at vertices, one after the other, and moves of blocks, of one block after the other.
-use Rattle.std.proofs.Common.{◌≡◌, ◌≢◌, ℕ, zero, suc, ◌+◌, ◌<◌, ◌≤◌, Bool, true, false, if◌then◌else◌, List, [], ◌∷◌, ◌++◌, length, map, flat_map, slice_index, slice_index_or, slice_set, Option, None, Some, All, ◌⊎◌, inl, inr, refl, sym, ap, ◌∙◌, subst, arith}
-use Rattle.std.proofs.lemmas.Bool.{cases_Bool, cases_eq, cases_lt, true≢false, both_ways, cond-true, cond-false}
+use Rattle.std.proofs.Common.{◌≡◌, ◌≢◌, ℕ, zero, suc, ◌<◌, ◌≤◌, Bool, true, false, if◌then◌else◌, List, [], ◌∷◌, ◌++◌, length, map, slice_index, slice_index_or, slice_set, Option, None, Some, All, ◌⊎◌, inl, inr, refl, sym, ap, ◌∙◌, subst, arith}
+use Rattle.std.proofs.lemmas.Bool.{cases_Bool, cases_eq, true≢false, both_ways, cond-true, cond-false}
 use Rattle.std.proofs.lemmas.List.{map-append, length-set, set-set, set-get_or, ext_get_or, get_or-set_same, get_or-set_other}
 use Rattle.std.proofs.lemmas.List.Elements.{All-nil, All-cons, All-head, All-tail, All-append}
 use Rattle.permutations.specs.Members.{is_member, is_distinct}
@@ -9,10 +9,8 @@ use Rattle.arrangements.proofs.Lists.{same-equal}
 use Rattle.pair_split.specs.Tutte.{Node}
 use Rattle.skeletons.specs.Moves.{Move}
 use Rattle.embed_moves.specs.Made.{Fits}
-use Rattle.undo_log.specs.declared.step.CutChange.{CutChange}
 use Rattle.spqr_session.specs.Trees.{BlockTree, tree_at}
 use Rattle.spqr_session.specs.State.{Embedding}
-use Rattle.spqr_session.specs.Moved.{all_moved}
 use Rattle.spqr_session.specs.History.{entry_moved, pairs_moved, lists_set, list_after, list_before, IsMoveOf}
 use Rattle.spqr_session.specs.WholeSteps.{pairs_of, same_kept, change_at, changes_below}
 

@@ -3,7 +3,7 @@ use Rattle.std.proofs.Common.{◌≡◌, ℕ, List, Some, None, refl, sym, ◌�
 use Rattle.whole_embed.specs.Whole.{whole_lists}
 use Rattle.spqr_script.specs.Answers.Whole.{whole_text}
 use Rattle.spqr_session.specs.Setting.{Setting}
-use Rattle.spqr_session.specs.State.{State, IsFamily, IsState, component_at}
+use Rattle.spqr_session.specs.State.{State, IsState, component_at}
 use Rattle.spqr_session.specs.Components.{blocks_of}
 use Rattle.spqr_session.specs.Commands.Whole.{IsWhole, WholeStep}
 use Rattle.spqr_session.specs.Codes.{code_text, first_code}

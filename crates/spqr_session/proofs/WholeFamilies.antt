@@ -1,7 +1,7 @@
 -- The family in which a component has another rotation system of its list: it is right, and other components are as they were.
-use Rattle.std.proofs.Common.{◌≡◌, ◌≢◌, ℕ, ◌<◌, ◌≤◌, Contains, Bool, true, false, if◌then◌else◌, List, [], ◌∷◌, length, map, slice_index, slice_index_or, slice_set, Option, None, Some, inl, inr, refl, sym, ap, ◌∙◌, subst, arith}
+use Rattle.std.proofs.Common.{◌≡◌, ◌≢◌, ℕ, ◌<◌, Contains, Bool, true, false, if◌then◌else◌, List, [], length, map, slice_index, slice_index_or, Option, None, Some, inl, inr, refl, sym, ap, ◌∙◌, subst, arith}
 use Rattle.std.proofs.Math.Path.{fun_ext}
-use Rattle.std.proofs.lemmas.Bool.{cases_Bool, cases_eq, cases_lt, true≢false, both_ways, cond-true, cond-false, false_from_ne_true}
+use Rattle.std.proofs.lemmas.Bool.{cases_Bool, cases_eq, cases_lt, both_ways, cond-true, cond-false, false_from_ne_true}
 use Rattle.std.proofs.lemmas.List.{get_or-map, length-map, length-set, get_or-set_same, get_or-set_other, get_or_past}
 use Rattle.permutations.specs.Members.{is_member}
 use Rattle.permutations.proofs.Arrangements.{member-at}
@@ -9,14 +9,12 @@ use Rattle.kuratowski.specs.declared.subdivision.Subdivision.{Subdivision}
 use Rattle.multigraph.specs.Graph.{numbers_below}
 use Rattle.multigraph.proofs.Below.{length-numbers_below, get_or-numbers_below}
 use Rattle.faces.specs.Euler.{IsPlaneSystem}
-use Rattle.arrangements.specs.Arranged.{arrangements_at, first_arrangement}
-use Rattle.whole_embed.specs.Component.{Component, BlockInPlane, component_vertices, IsComponentInPlane}
-use Rattle.whole_embed.specs.Around.{outer_at, edges_around, block_with, block_order, arrangements_around}
+use Rattle.arrangements.specs.Arranged.{arrangements_at}
+use Rattle.whole_embed.specs.Component.{Component, BlockInPlane, IsComponentInPlane}
+use Rattle.whole_embed.specs.Around.{outer_at, edges_around, block_with, block_order}
 use Rattle.whole_embed.specs.Whole.{AreArranged, block_part, IsWholeMember}
-use Rattle.whole_embed.specs.Walk.{first_around}
-use Rattle.whole_embed.proofs.Assembly.{assembled}
-use Rattle.whole_embed.proofs.Components.{block-in, vertex-in, cut-in}
-use Rattle.whole_embed.proofs.Moved.{IsMovedBlock, AreMoved, component-moved}
+use Rattle.whole_embed.proofs.Components.{vertex-in, cut-in}
+use Rattle.whole_embed.proofs.Moved.{IsMovedBlock, AreMoved}
 use Rattle.whole_embed.proofs.OfParts.{orders-arranged}
 use Rattle.whole_convert.specs.Between.{blocks_to}
 use Rattle.whole_convert.proofs.PartOf.{parts-plane}
@@ -24,9 +22,9 @@ use Rattle.whole_convert.proofs.Stages.{round-outside}
 use Rattle.spqr_session.specs.Trees.{BlockTree, tree_at}
 use Rattle.spqr_session.specs.Certificates.{certificate_at}
 use Rattle.spqr_session.specs.Setting.{Setting, IsSetting}
-use Rattle.spqr_session.specs.State.{Embedding, Family, entry_at, arrangements_in, IsEntry, component_at, is_planar_component, block_with_entry, blocks_with, AreArrangements, IsFamily}
+use Rattle.spqr_session.specs.State.{Embedding, Family, arrangements_in, IsEntry, component_at, is_planar_component, block_with_entry, blocks_with, AreArrangements, IsFamily}
 use Rattle.spqr_session.specs.Components.{blocks_of, entry_with, entries_with, family_with}
-use Rattle.spqr_session.proofs.ComponentParts.{block-there, block-planar, block-embedding, component-in_plane}
+use Rattle.spqr_session.proofs.ComponentParts.{block-there, block-embedding, component-in_plane}
 
 -- a block with its part of q
 abbrev pub turned : Component → List (List ℕ) → BlockInPlane → BlockInPlane

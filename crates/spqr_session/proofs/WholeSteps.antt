@@ -1,5 +1,5 @@
 -- A step that moves blocks of a component and sets lists at its cut vertices leads there, and back.
-use Rattle.std.proofs.Common.{◌≡◌, ◌≢◌, ℕ, ◌+◌, ◌<◌, ◌≤◌, Bool, true, false, List, [], ◌∷◌, length, map, slice_index, slice_index_or, Option, None, Some, All, inl, inr, refl, sym, ap, ◌∙◌, subst, arith}
+use Rattle.std.proofs.Common.{◌≡◌, ℕ, ◌<◌, true, List, length, map, slice_index, slice_index_or, Option, None, Some, All, inl, inr, sym, ap, ◌∙◌, subst, arith}
 use Rattle.std.proofs.lemmas.Bool.{cases_Bool, both_ways}
 use Rattle.std.proofs.lemmas.List.{length-map, ext_get_or}
 use Rattle.permutations.specs.Members.{is_member, is_distinct}
@@ -11,7 +11,6 @@ use Rattle.pair_split.specs.Tutte.{Node}
 use Rattle.faces.specs.Euler.{IsPlaneSystem}
 use Rattle.skeletons.specs.Moves.{Move, moves_between}
 use Rattle.embed_moves.specs.Made.{Fits}
-use Rattle.skel_embed.specs.Block.{BlockState}
 use Rattle.undo_log.specs.declared.step.BlockMove.{BlockMove}
 use Rattle.undo_log.specs.declared.step.CutChange.{CutChange}
 use Rattle.undo_log.specs.declared.step.Step.TheVariants.{Moves}
@@ -25,7 +24,6 @@ use Rattle.spqr_session.specs.Kept.{Kept}
 use Rattle.spqr_session.specs.Embedded.{BlockView, view_tree, view_entry, view_at, IsInPlane}
 use Rattle.spqr_session.specs.Moved.{all_moved}
 use Rattle.spqr_session.specs.History.{entry_moved, as_pairs, pairs_moved, lists_set, list_after, list_before, IsMoveOf}
-use Rattle.spqr_session.specs.Board.{StandsAt, LeadsTo, kept_on}
 use Rattle.spqr_session.specs.WholeSteps.{rotation_in, moves_forth, moves_back, pairs_of, changes_below, FitsMember, KeepsWhole, LeadsToWhole}
 use Rattle.spqr_session.proofs.Views.{trees-at, entries-at}
 use Rattle.spqr_session.proofs.Moved.{between-made}

@@ -1,6 +1,6 @@
 -- Lists that become the rotation system of a component: which codes apply, which is the lowest, and what holds where none does.
-use Rattle.std.proofs.Common.{◌≡◌, ◌≢◌, ℕ, ◌+◌, ◌<◌, ◌≤◌, ◌⊎◌, ◌&&◌, Bool, true, false, not, List, length, Option, None, Some, inl, inr, refl, sym, ap, ◌∙◌, subst, arith}
-use Rattle.std.proofs.lemmas.Bool.{cases_Bool, cases_eq, cases_lt, cases_order, both_ways, and_parts, and_from, not_from_false, not_from_true, true≢false}
+use Rattle.std.proofs.Common.{◌≡◌, ℕ, ◌+◌, ◌<◌, ◌≤◌, ◌⊎◌, ◌&&◌, Bool, true, false, not, List, length, inl, inr, refl, sym, ap, ◌∙◌, subst, arith}
+use Rattle.std.proofs.lemmas.Bool.{cases_Bool, cases_eq, cases_order, both_ways, and_parts, and_from, not_from_false, not_from_true}
 use Rattle.permutations.specs.Count.{some, least}
 use Rattle.permutations.specs.Members.{is_member}
 use Rattle.permutations.proofs.Search.{some-none, least-below, least-passes, least-before}
@@ -16,7 +16,7 @@ use Rattle.skel_embed.specs.Taken.{IsGiven, IsNotPlane}
 use Rattle.whole_embed.specs.Component.{Component, BlockInPlane, IsComponentInPlane}
 use Rattle.whole_embed.specs.Whole.{block_part, IsWholeMember}
 use Rattle.whole_embed.proofs.ComponentBlocks as component
-use Rattle.whole_embed.proofs.Odometer.{LeastOther, least-other}
+use Rattle.whole_embed.proofs.Odometer.{least-other}
 use Rattle.whole_convert.specs.Target.{IsLeastLocked, KeepsLocked, IsLeastLockedBlock, IsLockedAt}
 use Rattle.whole_convert.proofs.Connected.{component-connected, two-plane}
 use Rattle.whole_convert.proofs.PartOf.{parts-plane}
@@ -30,7 +30,7 @@ use Rattle.spqr_session.specs.declared.code.Code.{Code}
 use Rattle.spqr_session.specs.declared.code.Code.TheVariants.{NoBlock, NoNode, WrongKind, BadOrder, NonPlanar, BadRotation, NotGenusZero, NothingToUndo, NothingToRedo, CountOver, RankOut, Locked, LockedIn, Parallel, NoComponent, NoCut, BlockOrder, Cross}
 use Rattle.spqr_session.proofs.Carried.{TellsOne}
 use Rattle.spqr_session.proofs.ComponentParts.{setting-graph, setting-limits, family-in_plane}
-use Rattle.spqr_session.proofs.GivenParts.{one-bad, arranged-not_bad, arranged_or_bad, given-exists, given-one}
+use Rattle.spqr_session.proofs.GivenParts.{one-bad, arranged_or_bad, given-exists, given-one}
 use Rattle.spqr_session.proofs.WholeWalks.{IsThere}
 
 -- ---- locked nodes

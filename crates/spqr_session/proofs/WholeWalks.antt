@@ -1,12 +1,12 @@
 -- `nextwhole` and `listwhole`: there is an answer, and one only, and they lead from a state to a state.
-use Rattle.std.proofs.Common.{◌≡◌, ℕ, ◌+◌, ◌<◌, ◌≤◌, Bool, true, false, not, ◌&&◌, nat_lt, List, [], ◌∷◌, length, slice_index_or, drop, Option, None, Some, All, Contains, inl, inr, refl, sym, ap, ◌∙◌, subst, arith}
+use Rattle.std.proofs.Common.{◌≡◌, ℕ, ◌+◌, ◌<◌, Bool, true, false, not, ◌&&◌, List, [], ◌∷◌, length, slice_index_or, drop, Option, None, Some, inl, inr, refl, sym, ap, ◌∙◌, subst, arith}
 use Rattle.std.proofs.lemmas.Bool.{cases_lt, cases_order, ltb-true, true≢false}
 use Rattle.std.proofs.lemmas.List.{get_or_past}
 use Rattle.std.proofs.lemmas.List.Elements.{All-cons, All-nil}
 use Rattle.skeletons.specs.Lists.{IsRank}
 use Rattle.embed_enum.proofs.Places.{rank-contains}
 use Rattle.whole_embed.specs.Component.{Component, BlockInPlane, IsComponentInPlane}
-use Rattle.whole_embed.specs.Whole.{AreArranged, IsWholeMember, WholePrecedes, IsWholeList}
+use Rattle.whole_embed.specs.Whole.{IsWholeMember, WholePrecedes}
 use Rattle.whole_embed.proofs.ListExists.{list_exists, list_is_unique, whole_has_rank}
 use Rattle.whole_embed.proofs.Odometer.{precedes-apart}
 use Rattle.spqr_script.specs.Answers.Change.{ok_text, end_text}
@@ -14,7 +14,7 @@ use Rattle.spqr_session.specs.Setting.{Setting, IsSetting}
 use Rattle.spqr_session.specs.State.{Family, State, arrangements_in, component_at, is_planar_component, AreArrangements, IsFamily, IsState}
 use Rattle.spqr_session.specs.Codes.{first_code}
 use Rattle.spqr_session.specs.BlockCodes.{with_family}
-use Rattle.spqr_session.specs.Components.{is_component, component_ladder, blocks_of, ReadsComponent, family_with, ChangesComponent}
+use Rattle.spqr_session.specs.Components.{is_component, component_ladder, blocks_of, ReadsComponent, family_with}
 use Rattle.spqr_session.specs.Commands.NextWhole.{AreWholeMembers, present_system, IsWholeEnd, IsWholeNext, NextWholeDoes, NextWholeStep}
 use Rattle.spqr_session.specs.Commands.ListWhole.{whole_members_text, IsWholeListing, ListWholeStep}
 use Rattle.spqr_session.specs.declared.code.Code.TheVariants.{NonPlanar, NoComponent}

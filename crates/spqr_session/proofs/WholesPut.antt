@@ -1,22 +1,20 @@
 -- The blocks and the lists of a component that are put on a board: they may be put there, and the state after it.
-use Rattle.std.proofs.Common.{◌≡◌, ℕ, ◌<◌, true, ◌==◌, List, [], ◌∷◌, length, map, slice_index, slice_index_or, Option, None, Some, refl, sym, ap, ◌∙◌, subst, arith}
+use Rattle.std.proofs.Common.{◌≡◌, ℕ, ◌<◌, true, ◌==◌, List, length, map, slice_index, Some, sym, ap, ◌∙◌, subst}
 use Rattle.permutations.specs.Members.{is_member}
 use Rattle.permutations.proofs.Arrangements.{member-at}
-use Rattle.kuratowski.specs.declared.subdivision.Subdivision.{Subdivision}
 use Rattle.faces.specs.Euler.{IsPlaneSystem}
 use Rattle.skeletons.specs.Items as items
 use Rattle.whole_embed.specs.declared.members.Member.{Member}
 use Rattle.whole_embed.specs.Component.{Component}
 use Rattle.whole_embed.specs.Cuts.{CutState, member_at}
 use Rattle.spqr_session.specs.Trees.{BlockTree, tree_at}
-use Rattle.spqr_session.specs.Certificates.{certificate_at}
 use Rattle.spqr_session.specs.Setting.{Setting, IsSetting}
-use Rattle.spqr_session.specs.State.{Embedding, Family, State, IsEntry, component_at, is_planar_component, IsFamily}
-use Rattle.spqr_session.specs.Kept.{Kept, family_of}
-use Rattle.spqr_session.specs.Embedded.{BlockView, view_tree, view_entry, view_at, IsInPlane}
+use Rattle.spqr_session.specs.State.{Embedding, component_at, is_planar_component, IsFamily}
+use Rattle.spqr_session.specs.Kept.{family_of}
+use Rattle.spqr_session.specs.Embedded.{view_tree, view_entry, view_at, IsInPlane}
 use Rattle.spqr_session.specs.BlockCodes.{with_family}
 use Rattle.spqr_session.specs.Components.{family_with}
-use Rattle.spqr_session.specs.Board.{BoardView, HavePlaces, kept_on, kept_now, board_state}
+use Rattle.spqr_session.specs.Board.{BoardView, HavePlaces, kept_now, board_state}
 use Rattle.spqr_session.specs.WholeSteps.{FitsMember, IsWholeTarget, GoesToWhole}
 use Rattle.spqr_session.proofs.SettingTrees.{setting-tree}
 use Rattle.spqr_session.proofs.Views.{trees-at, entries-at}

@@ -1,23 +1,22 @@
 -- A step of the walk through the list of a component of a family.
-use Rattle.std.proofs.Common.{◌≡◌, ℕ, ◌+◌, ◌<◌, ◌≤◌, Bool, true, false, List, [], length, map, slice_index, slice_index_or, Option, None, Some, inl, inr, refl, sym, ap, ◌∙◌, subst, arith}
+use Rattle.std.proofs.Common.{◌≡◌, ℕ, ◌+◌, ◌<◌, List, [], length, map, Some, inl, inr, refl, sym, ap, ◌∙◌, subst, arith}
 use Rattle.std.proofs.lemmas.List.{length-map, get_or-map, ext_get_or}
-use Rattle.permutations.specs.Members.{is_member}
 use Rattle.skeletons.specs.Lists.{IsRank}
 use Rattle.embed_enum.proofs.Places.{rank-contains}
 use Rattle.whole_embed.specs.declared.members.Member.{Member}
 use Rattle.whole_embed.specs.Component.{Component, BlockInPlane, IsComponentInPlane}
 use Rattle.whole_embed.specs.Around.{outer_at}
 use Rattle.whole_embed.specs.Cuts.{CutState, blocks_in, HavePlanes}
-use Rattle.whole_embed.specs.Whole.{AreArranged, block_part, whole_system, IsWholeMember, IsWholeList}
+use Rattle.whole_embed.specs.Whole.{AreArranged, whole_system, IsWholeMember, IsWholeList}
 use Rattle.whole_embed.specs.Walk.{KeepsBlocks}
 use Rattle.whole_embed.proofs.Assembling.{whole_has_parts, whole_has_arrangements}
 use Rattle.whole_embed.proofs.ListExists.{list_exists, whole_has_rank}
 use Rattle.whole_convert.specs.Between.{blocks_to}
 use Rattle.spqr_script.specs.Answers.Change.{ok_text, end_text}
-use Rattle.spqr_session.specs.Setting.{Setting, IsSetting}
-use Rattle.spqr_session.specs.State.{Family, State, arrangements_in, component_at, is_planar_component, IsFamily}
+use Rattle.spqr_session.specs.Setting.{Setting}
+use Rattle.spqr_session.specs.State.{Family, State, arrangements_in, component_at}
 use Rattle.spqr_session.specs.BlockCodes.{with_family}
-use Rattle.spqr_session.specs.Components.{blocks_of, ReadsComponent, family_with, ChangesComponent}
+use Rattle.spqr_session.specs.Components.{blocks_of, family_with}
 use Rattle.spqr_session.specs.Commands.NextWhole.{AreWholeMembers, present_system, IsWholeEnd, IsWholeNext, NextWholeDoes}
 use Rattle.spqr_session.specs.WholeSteps.{system_now, AreTogether, IsListNow, IsWholeTarget}
 use Rattle.spqr_session.proofs.KeptWholes.{walked-blocks}

@@ -14,6 +14,7 @@ pub mod Board
 pub mod AtOnce
 pub mod Marked
 pub mod Codes
+pub mod Planar
 pub mod BlockCodes
 pub mod Components
 pub mod Members

@@ -1,5 +1,5 @@
 -- Components with the blocks and the lists on the board, as calls on components have them. Contracts of private functions cite these.
-use Rattle.std.specs.Prelude.{◌≡◌, ℕ, ◌<◌, ◌≤◌, ◌⊎◌, true, List, [], length, map, slice_index, slice_index_or, slice_set, Option, None, Some, Contains, IsPermutation}
+use Rattle.std.specs.Prelude.{◌≡◌, ℕ, ◌<◌, ◌≤◌, ◌⊎◌, true, List, [], length, slice_index, slice_index_or, slice_set, Option, None, Some, Contains, IsPermutation}
 use Rattle.permutations.specs.Cyclic.{from_least}
 use Rattle.multigraph.specs.Graph.{Multigraph, incident_edges}
 use Rattle.rotations.specs.Rotation.{IsCyclicOrder}
@@ -11,11 +11,10 @@ use Rattle.whole_embed.specs.Component.{Component, BlockInPlane, has_edge, IsCom
 use Rattle.whole_embed.specs.Around.{edges_around, arrangements_around}
 use Rattle.whole_embed.specs.Cuts.{CutState, in_plane, member_at, blocks_in, HavePlanes, set_around, IsRegroupRefusal}
 use Rattle.whole_embed.specs.Whole.{AreArranged}
-use Rattle.whole_embed.specs.Walk.{first_around}
 use Rattle.spqr_session.specs.Trees.{tree_at}
 use Rattle.spqr_session.specs.Certificates.{certificate_at}
 use Rattle.spqr_session.specs.Setting.{Setting}
-use Rattle.spqr_session.specs.State.{Embedding, Family, State, arrangements_in, IsEntry, component_at, lacks_certificate, is_planar_component, block_with_entry, blocks_with, first_lists}
+use Rattle.spqr_session.specs.State.{Embedding, Family, State, arrangements_in, IsEntry, component_at, lacks_certificate, block_with_entry, blocks_with, first_lists}
 use Rattle.spqr_session.specs.Kept.{Kept, list_or_first, family_of}
 use Rattle.spqr_script.specs.Answers.Change.{ok_text}
 use Rattle.spqr_session.specs.Embedded.{BlockView, view_at}

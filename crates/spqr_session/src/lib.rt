@@ -40,6 +40,7 @@ pub mod laws;
 mod lines;
 mod making;
 mod marks;
+mod planar;
 mod planned;
 mod scene;
 mod session;

@@ -3,14 +3,12 @@ ghost use Rattle.std.specs.Prelude.{◌≡◌, ◌<◌, ◌^◌, map, IfOk};
 ghost use Rattle.spqr_script.specs.Answers.Count.{count_text};
 ghost use Rattle.spqr_session.specs.State.{State};
 ghost use Rattle.spqr_session.specs.Embedded.{view_tree, view_entry};
-ghost use Rattle.spqr_session.specs.Products.{product_count_codes, CountByProduct, RankByProduct};
-ghost use Rattle.spqr_session.specs.BlockCodes.{TellsBlock};
-ghost use Rattle.spqr_session.specs.Commands.Count.{IsCounted, IsRanked};
+ghost use Rattle.spqr_session.specs.Products.{CountByProduct, RankByProduct};
 
 use crate::code::Code;
 use crate::embedded::EmbeddedBlock;
+use crate::planar::plane_of;
 use embed_enum::{count, rank};
-use skel_embed::Outcome;
 use spqr_script::{count_line, rank_line};
 use std::alloc::{AllocError, Global};
 
@@ -22,20 +20,6 @@ fn line_of(alloc: Global, members: u128) -> Result<Vec<u8>, AllocError>
     count_line(alloc, members)
 }
 
-// The line of a block's count, or that of a code.
-fn count_block(alloc: Global, block: &EmbeddedBlock) -> Result<Vec<u8>, AllocError>
-    ensures { IfOk result
-        (λ text. TellsBlock block.now.tree block.now.entry product_count_codes IsCounted text.items) }
-{
-    match block.outcome() {
-        Outcome::Plane(plane) => match count(plane) {
-            Ok(members) => line_of(alloc, members),
-            Err(_) => Code::CountOver.line(alloc),
-        },
-        Outcome::Not(_, _, _) => Code::NonPlanar.line(alloc),
-    }
-}
-
 /// Carries out `count`: the length of the list of block `b`, or code 1, 5 or 10. Nothing changes.
 pub(crate) fn carry_count(
     alloc: Global,
@@ -45,23 +29,12 @@ pub(crate) fn carry_count(
     ensures { (s : State) → s.present.entries ≡ map view_entry blocks.now
         → IfOk result (λ text. CountByProduct (map view_tree blocks.now) b s text.items s) }
 {
-    match blocks.get(b as usize) {
-        Some(block) => count_block(alloc, block),
-        None => Code::NoBlock.line(alloc),
-    }
-}
-
-// The line of a block's rank, or that of a code.
-fn rank_block(alloc: Global, block: &EmbeddedBlock) -> Result<Vec<u8>, AllocError>
-    ensures { IfOk result
-        (λ text. TellsBlock block.now.tree block.now.entry product_count_codes IsRanked text.items) }
-{
-    match block.outcome() {
-        Outcome::Plane(plane) => match rank(plane) {
-            Ok(place) => rank_line(alloc, place),
+    match plane_of(blocks, b) {
+        Ok((_, plane)) => match count(plane) {
+            Ok(members) => line_of(alloc, members),
             Err(_) => Code::CountOver.line(alloc),
         },
-        Outcome::Not(_, _, _) => Code::NonPlanar.line(alloc),
+        Err(code) => code.line(alloc),
     }
 }
 
@@ -74,8 +47,11 @@ pub(crate) fn carry_rank(
     ensures { (s : State) → s.present.entries ≡ map view_entry blocks.now
         → IfOk result (λ text. RankByProduct (map view_tree blocks.now) b s text.items s) }
 {
-    match blocks.get(b as usize) {
-        Some(block) => rank_block(alloc, block),
-        None => Code::NoBlock.line(alloc),
+    match plane_of(blocks, b) {
+        Ok((_, plane)) => match rank(plane) {
+            Ok(place) => rank_line(alloc, place),
+            Err(_) => Code::CountOver.line(alloc),
+        },
+        Err(code) => code.line(alloc),
     }
 }

@@ -110,12 +110,7 @@ fn write_over(line: &mut [u8], place: usize, text: &[u8])
 
 impl KeptLine {
     // The line of a rotation system of block b.
-    pub(super) fn new(
-        alloc: Global,
-        b: u32,
-        part: &Part,
-        r: &Rotation,
-    ) -> Result<KeptLine, AllocError>
+    fn new(alloc: Global, b: u32, part: &Part, r: &Rotation) -> Result<KeptLine, AllocError>
         requires { IsRotationSystem part.now.graph r.now }
         ensures { IfOk result (λ kept. IsKept part.now b r.now kept.line.items kept.places.items
             kept.followers.items kept.changed.items) }

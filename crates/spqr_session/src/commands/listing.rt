@@ -8,16 +8,16 @@ ghost use Rattle.spqr_script.specs.Answers.List.{list_text, more_text};
 ghost use Rattle.spqr_script.specs.Answers.Rotation.{rotation_text};
 ghost use Rattle.spqr_session.specs.State.{State};
 ghost use Rattle.spqr_session.specs.Embedded.{view_tree, view_entry};
-ghost use Rattle.spqr_session.specs.BlockCodes.{no_more, ReadStep, TellsBlock};
+ghost use Rattle.spqr_session.specs.BlockCodes.{no_more, ReadStep};
 ghost use Rattle.spqr_session.specs.Commands.Listing.{members_text, IsListing};
 
 use super::kept_line::push_member;
-use crate::code::Code;
 use crate::embedded::EmbeddedBlock;
 use crate::lines::put_first;
+use crate::planar::plane_of;
 use embed_enum::next;
 use multigraph::Part;
-use skel_embed::{Outcome, PlaneBlock};
+use skel_embed::PlaneBlock;
 use spqr_script::{end_line, list_line, more_line};
 use std::alloc::{AllocError, Global};
 
@@ -103,17 +103,6 @@ fn list_plane(
     Ok(text)
 }
 
-// The lines of the next n members of a block, or that of code 5.
-fn list_block(alloc: Global, b: u32, n: u32, block: &EmbeddedBlock) -> Result<Vec<u8>, AllocError>
-    ensures { IfOk result (λ text. TellsBlock block.now.tree block.now.entry no_more
-        (IsListing b n) text.items) }
-{
-    match block.outcome() {
-        Outcome::Plane(plane) => list_plane(alloc, b, n, block.part(), plane),
-        Outcome::Not(_, _, _) => Code::NonPlanar.line(alloc),
-    }
-}
-
 /// Carries out `list`: the lines of the next n members of block `b`, or code 1 or 5. Nothing changes.
 pub(crate) fn carry_list(
     alloc: Global,
@@ -124,8 +113,8 @@ pub(crate) fn carry_list(
     ensures { (s : State) → s.present.entries ≡ map view_entry blocks.now
         → IfOk result (λ text. ReadStep no_more (IsListing b n) (map view_tree blocks.now) b s text.items s) }
 {
-    match blocks.get(b as usize) {
-        Some(block) => list_block(alloc, b, n, block),
-        None => Code::NoBlock.line(alloc),
+    match plane_of(blocks, b) {
+        Ok((part, plane)) => list_plane(alloc, b, n, part, plane),
+        Err(code) => code.line(alloc),
     }
 }

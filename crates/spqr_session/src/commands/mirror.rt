@@ -4,7 +4,7 @@ ghost use Rattle.spqr_session.specs.State.{State};
 ghost use Rattle.spqr_session.specs.Embedded.{view_tree, view_entry};
 ghost use Rattle.spqr_session.specs.Scene.{setting_on};
 ghost use Rattle.spqr_session.specs.declared.scene.Scene.{Scene};
-ghost use Rattle.spqr_session.specs.BlockCodes.{entry_codes, read_ladder};
+ghost use Rattle.spqr_session.specs.BlockCodes.{read_ladder};
 ghost use Rattle.spqr_session.specs.Board.{state_on, BelongTogether, IsCarried};
 ghost use Rattle.spqr_session.specs.Planned.{IsVerdict, IsMirrorVerdict};
 ghost use Rattle.spqr_session.specs.Commands.Mirror.{mirror_codes, MirrorStep};
@@ -12,8 +12,9 @@ ghost use Rattle.spqr_session.specs.Commands.Mirror.{mirror_codes, MirrorStep};
 use crate::board::Board;
 use crate::code::Code;
 use crate::embedded::EmbeddedBlock;
+use crate::planar::plane_of;
 use embed_moves::least_held;
-use skel_embed::{Outcome, PlaneBlock};
+use skel_embed::PlaneBlock;
 use spqr_script::ok_line;
 use std::alloc::{AllocError, Global};
 
@@ -27,24 +28,14 @@ fn code_of_plane(plane: &PlaneBlock) -> Option<Code>
     }
 }
 
-// The code that applies to the mirror image of a block.
-fn code_of_block(block: &EmbeddedBlock) -> Option<Code>
-    ensures { IsVerdict (entry_codes mirror_codes block.now.tree block.now.entry) result }
-{
-    match block.outcome() {
-        Outcome::Plane(plane) => code_of_plane(plane),
-        Outcome::Not(_, _, _) => Some(Code::NonPlanar),
-    }
-}
-
 // The code that applies to the mirror image of block b.
 fn code_of(blocks: &[EmbeddedBlock], b: u32) -> Option<Code>
     ensures { (s : State) → s.present.entries ≡ map view_entry blocks.now
         → IsVerdict (read_ladder mirror_codes (map view_tree blocks.now) b s) result }
 {
-    match blocks.get(b as usize) {
-        Some(block) => code_of_block(block),
-        None => Some(Code::NoBlock),
+    match plane_of(blocks, b) {
+        Ok((_, plane)) => code_of_plane(plane),
+        Err(code) => Some(code),
     }
 }
 

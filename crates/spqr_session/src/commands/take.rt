@@ -5,16 +5,17 @@ ghost use Rattle.spqr_session.specs.Embedded.{view_tree, view_entry};
 ghost use Rattle.spqr_session.specs.Scene.{setting_on};
 ghost use Rattle.spqr_session.specs.declared.scene.Scene.{Scene};
 ghost use Rattle.spqr_session.specs.Board.{state_on, BelongTogether, IsCarried};
-ghost use Rattle.spqr_session.specs.Planned.{IsLowestPlan, IsLowestPlanAt, EntryTakenCodes, IsTakePlan};
+ghost use Rattle.spqr_session.specs.Planned.{IsLowestPlanAt, IsTakePlan};
 ghost use Rattle.spqr_session.specs.Commands.Take.{TakeApplies, IsTaken, TakeStep};
 
 use crate::board::Board;
 use crate::code::Code;
 use crate::embedded::EmbeddedBlock;
+use crate::planar::plane_of;
 use crate::planned::{Planned, settle};
 use multigraph::Part;
 use rotations::Lists;
-use skel_embed::{Outcome, PlaneBlock, TakeFault};
+use skel_embed::{PlaneBlock, TakeFault};
 use std::alloc::{AllocError, Global};
 
 // The plan for a block in the plane, which is that part: made on a copy.
@@ -42,18 +43,6 @@ fn take_of_plane(
     }
 }
 
-// The plan for a block.
-fn take_of_block(alloc: Global, block: &EmbeddedBlock, lists: &Lists) -> Result<Planned, AllocError>
-    ensures { IfOk result (IsLowestPlan (EntryTakenCodes lists.now block.now.tree block.now.entry)
-        (IsTaken lists.now) block.now) }
-{
-    let _ = block.part().graph();
-    match block.outcome() {
-        Outcome::Plane(plane) => take_of_plane(alloc, plane, block.part(), lists),
-        Outcome::Not(_, _, _) => Ok(Planned::Refused(Code::NonPlanar)),
-    }
-}
-
 /// The plan for block `b` to take the rotation system that the lists give.
 pub(crate) fn plan_take(
     alloc: Global,
@@ -64,9 +53,12 @@ pub(crate) fn plan_take(
     ensures { (s : State) → s.present.entries ≡ map view_entry blocks.now
         → IfOk result (IsLowestPlanAt (TakeApplies (map view_tree blocks.now) b lists.now s) (IsTaken lists.now) blocks.now b) }
 {
-    match blocks.get(b as usize) {
-        Some(block) => take_of_block(alloc, block, lists),
-        None => Ok(Planned::Refused(Code::NoBlock)),
+    match plane_of(blocks, b) {
+        Ok((part, plane)) => {
+            let _ = part.graph();
+            take_of_plane(alloc, plane, part, lists)
+        }
+        Err(code) => Ok(Planned::Refused(code)),
     }
 }
 

@@ -2,29 +2,14 @@
 ghost use Rattle.std.specs.Prelude.{◌≡◌, map, IfOk};
 ghost use Rattle.spqr_session.specs.State.{State};
 ghost use Rattle.spqr_session.specs.Embedded.{view_tree, view_entry};
-ghost use Rattle.spqr_session.specs.BlockCodes.{no_more, ReadStep, TellsBlock};
+ghost use Rattle.spqr_session.specs.BlockCodes.{no_more, ReadStep};
 ghost use Rattle.spqr_session.specs.Commands.Faces.{IsFaced};
 
-use crate::code::Code;
 use crate::embedded::EmbeddedBlock;
+use crate::planar::plane_of;
 use faces::trace;
-use skel_embed::Outcome;
 use spqr_script::faces_lines;
 use std::alloc::{AllocError, Global};
-
-// The lines of the faces of a block, or that of code 5.
-fn faces_of_block(alloc: Global, b: u32, block: &EmbeddedBlock) -> Result<Vec<u8>, AllocError>
-    ensures { IfOk result (λ text. TellsBlock block.now.tree block.now.entry no_more
-        (IsFaced b) text.items) }
-{
-    match block.outcome() {
-        Outcome::Plane(plane) => {
-            let faces = trace(alloc, plane.graph(), plane.rotation())?;
-            faces_lines(alloc, b, block.part(), &faces)
-        }
-        Outcome::Not(_, _, _) => Code::NonPlanar.line(alloc),
-    }
-}
 
 /// Carries out `faces`: the faces of block `b`, or code 1 or 5. Nothing changes.
 pub(crate) fn carry_faces(
@@ -35,8 +20,11 @@ pub(crate) fn carry_faces(
     ensures { (s : State) → s.present.entries ≡ map view_entry blocks.now
         → IfOk result (λ text. ReadStep no_more (IsFaced b) (map view_tree blocks.now) b s text.items s) }
 {
-    match blocks.get(b as usize) {
-        Some(block) => faces_of_block(alloc, b, block),
-        None => Code::NoBlock.line(alloc),
+    match plane_of(blocks, b) {
+        Ok((part, plane)) => {
+            let faces = trace(alloc, plane.graph(), plane.rotation())?;
+            faces_lines(alloc, b, part, &faces)
+        }
+        Err(code) => code.line(alloc),
     }
 }

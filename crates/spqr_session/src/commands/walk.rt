@@ -6,18 +6,19 @@ ghost use Rattle.spqr_session.specs.Scene.{setting_on};
 ghost use Rattle.spqr_session.specs.declared.scene.Scene.{Scene};
 ghost use Rattle.spqr_session.specs.Members.{StandsAt};
 ghost use Rattle.spqr_session.specs.Products.{product_rank_codes, GotoByProduct};
-ghost use Rattle.spqr_session.specs.BlockCodes.{planar_codes, block_ladder, entry_codes, read_ladder};
+ghost use Rattle.spqr_session.specs.BlockCodes.{block_ladder, read_ladder};
 ghost use Rattle.spqr_session.specs.Board.{state_on, BelongTogether, IsCarried};
-ghost use Rattle.spqr_session.specs.Planned.{IsPlan, IsPlanAt, IsFirstPlan, IsRankPlan, IsNextPlan, IsNextPlanAt, IsStepPlan};
+ghost use Rattle.spqr_session.specs.Planned.{IsPlanAt, IsFirstPlan, IsRankPlan, IsNextPlanAt, IsStepPlan};
 ghost use Rattle.spqr_session.specs.Commands.Walk.{FirstStep, NextStep};
 
 use crate::at_once::is_worth_a_pass;
 use crate::board::Board;
 use crate::code::Code;
 use crate::embedded::EmbeddedBlock;
+use crate::planar::plane_of;
 use crate::planned::{Planned, settle};
 use embed_enum::{GotoFault, count, first, first_in_one_pass, goto, is_at_first, next};
-use skel_embed::{Outcome, PlaneBlock};
+use skel_embed::PlaneBlock;
 use std::alloc::{AllocError, Global};
 
 // ---- first
@@ -46,24 +47,14 @@ fn first_of_plane(alloc: Global, plane: &PlaneBlock) -> Result<Planned, AllocErr
     Ok(Planned::Change(copy))
 }
 
-// The plan for a block.
-fn first_of_block(alloc: Global, block: &EmbeddedBlock) -> Result<Planned, AllocError>
-    ensures { IfOk result (IsPlan (planar_codes block.now.entry) (StandsAt 0) block.now) }
-{
-    match block.outcome() {
-        Outcome::Plane(plane) => first_of_plane(alloc, plane),
-        Outcome::Not(_, _, _) => Ok(Planned::Refused(Code::NonPlanar)),
-    }
-}
-
 // The plan for block `b`.
 fn plan_first(alloc: Global, blocks: &[EmbeddedBlock], b: u32) -> Result<Planned, AllocError>
     ensures { (s : State) → s.present.entries ≡ map view_entry blocks.now
         → IfOk result (IsPlanAt (block_ladder (map view_tree blocks.now) b s) (StandsAt 0) blocks.now b) }
 {
-    match blocks.get(b as usize) {
-        Some(block) => first_of_block(alloc, block),
-        None => Ok(Planned::Refused(Code::NoBlock)),
+    match plane_of(blocks, b) {
+        Ok((_, plane)) => first_of_plane(alloc, plane),
+        Err(code) => Ok(Planned::Refused(code)),
     }
 }
 
@@ -117,17 +108,6 @@ fn rank_of_plane(alloc: Global, plane: &PlaneBlock, r: u128) -> Result<Planned, 
     }
 }
 
-// The plan for a block.
-fn rank_of_block(alloc: Global, block: &EmbeddedBlock, r: u128) -> Result<Planned, AllocError>
-    ensures { IfOk result (IsPlan (entry_codes (product_rank_codes r) block.now.tree block.now.entry)
-        (StandsAt r) block.now) }
-{
-    match block.outcome() {
-        Outcome::Plane(plane) => rank_of_plane(alloc, plane, r),
-        Outcome::Not(_, _, _) => Ok(Planned::Refused(Code::NonPlanar)),
-    }
-}
-
 /// The plan for block `b` to go to the member of this rank.
 pub(crate) fn plan_rank(
     alloc: Global,
@@ -138,9 +118,9 @@ pub(crate) fn plan_rank(
     ensures { (s : State) → s.present.entries ≡ map view_entry blocks.now
         → IfOk result (IsPlanAt (read_ladder (product_rank_codes r) (map view_tree blocks.now) b s) (StandsAt r) blocks.now b) }
 {
-    match blocks.get(b as usize) {
-        Some(block) => rank_of_block(alloc, block, r),
-        None => Ok(Planned::Refused(Code::NoBlock)),
+    match plane_of(blocks, b) {
+        Ok((_, plane)) => rank_of_plane(alloc, plane, r),
+        Err(code) => Ok(Planned::Refused(code)),
     }
 }
 
@@ -175,24 +155,14 @@ fn next_of_plane(alloc: Global, plane: &PlaneBlock) -> Result<Planned, AllocErro
     }
 }
 
-// The plan for a block.
-fn next_of_block(alloc: Global, block: &EmbeddedBlock) -> Result<Planned, AllocError>
-    ensures { IfOk result (IsNextPlan block.now) }
-{
-    match block.outcome() {
-        Outcome::Plane(plane) => next_of_plane(alloc, plane),
-        Outcome::Not(_, _, _) => Ok(Planned::Refused(Code::NonPlanar)),
-    }
-}
-
 // The plan for block `b`.
 fn plan_next(alloc: Global, blocks: &[EmbeddedBlock], b: u32) -> Result<Planned, AllocError>
     ensures { (s : State) → s.present.entries ≡ map view_entry blocks.now
         → IfOk result (IsNextPlanAt (block_ladder (map view_tree blocks.now) b s) blocks.now b) }
 {
-    match blocks.get(b as usize) {
-        Some(block) => next_of_block(alloc, block),
-        None => Ok(Planned::Refused(Code::NoBlock)),
+    match plane_of(blocks, b) {
+        Ok((_, plane)) => next_of_plane(alloc, plane),
+        Err(code) => Ok(Planned::Refused(code)),
     }
 }
 

@@ -1,4 +1,4 @@
-use Rattle.std.proofs.Common.{◌≡◌, ◌<◌, ℕ, List, length, slice_index, None, sym, subst}
+use Rattle.std.proofs.Common.{◌<◌, ℕ, List, length, slice_index, None, sym, subst}
 use Rattle.multigraph.specs.Graph.{Multigraph, edge_count}
 use Rattle.multigraph.specs.Part.{IsPart}
 use Rattle.blocks.specs.Blocks.{block_at}

@@ -1,7 +1,5 @@
-use Rattle.std.proofs.Common.{◌≡◌, ℕ, List, Option, length, ap, ◌∙◌}
-use Rattle.undo_log.specs.declared.step.BlockMove.{BlockMove}
+use Rattle.std.proofs.Common.{ℕ, List, Option, length, ap, ◌∙◌}
 use Rattle.whole_embed.specs.Cuts.{blocks_in}
-use Rattle.spqr_session.specs.History.{as_pairs}
 use Rattle.spqr_session.specs.WholeSteps.{moves_forth, moves_back, pairs_of, changes_below, wanted_in}
 use Rattle.spqr_session.proofs.Steps.{ok-map}
 use Rattle.spqr_session.proofs.WholesFirst.{step-leads}

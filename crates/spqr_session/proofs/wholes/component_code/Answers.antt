@@ -1,4 +1,4 @@
-use Rattle.std.proofs.Common.{◌≤◌, ◌<◌, sym, ◌∙◌, arith}
+use Rattle.std.proofs.Common.{sym, ◌∙◌, arith}
 use Rattle.spqr_session.specs.Scene.{setting_on}
 use Rattle.spqr_session.proofs.ComponentCarried.{no-component, not-planar, planar-there}
 use Rattle.spqr_session.proofs.wholes.component_code.Goals as goal

@@ -1,4 +1,4 @@
-use Rattle.std.proofs.Common.{◌≡◌, ◌<◌, ℕ, Bool, true, Option, length, slice_index, sym, ap, ◌∙◌, subst, arith}
+use Rattle.std.proofs.Common.{◌≡◌, ◌<◌, true, Option, length, slice_index, sym, ap, ◌∙◌, subst, arith}
 use Rattle.blocks.specs.Blocks.{block_at}
 use Rattle.kuratowski.specs.declared.subdivision.Subdivision.{Subdivision}
 use Rattle.whole_embed.specs.Component.{has_edge}

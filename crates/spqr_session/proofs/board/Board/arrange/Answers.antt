@@ -1,4 +1,4 @@
-use Rattle.std.proofs.Common.{sym, subst}
+use Rattle.std.proofs.Common.{subst}
 use Rattle.spqr_session.specs.Board.{BoardView, LeadsTo}
 use Rattle.spqr_session.specs.Wholes.{kept_arranged}
 use Rattle.spqr_session.proofs.board.Board.arrange.Goals as goal

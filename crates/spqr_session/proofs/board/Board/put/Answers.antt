@@ -8,7 +8,7 @@ use Rattle.spqr_session.specs.Board.{BoardView, Clears, CanReplace, LeadsTo, kep
 use Rattle.spqr_session.proofs.BlockTrees.{view-at}
 use Rattle.spqr_session.proofs.Boards.{noted-added}
 use Rattle.spqr_session.proofs.BoardSteps.{put-right, put-carried, put-changed}
-use Rattle.spqr_session.proofs.MarkedLists.{marked-after, marked-before}
+use Rattle.spqr_session.proofs.MarkedLists.{marked-after}
 use Rattle.spqr_session.proofs.board.Board.put.Goals as goal
 
 pub replace-requires-clause-planar : goal.replace-requires-clause-planar

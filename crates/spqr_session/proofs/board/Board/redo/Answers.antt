@@ -4,7 +4,7 @@ use Rattle.spqr_session.specs.Embedded.{view_tree}
 use Rattle.spqr_session.specs.History.{lists_set, redone}
 use Rattle.spqr_session.specs.Board.{kept_on}
 use Rattle.spqr_session.proofs.Boards.{board-on}
-use Rattle.spqr_session.proofs.MarkedLists.{marked-after, marked-before}
+use Rattle.spqr_session.proofs.MarkedLists.{marked-after}
 use Rattle.spqr_session.proofs.board.Board.redo.Goals as goal
 
 pub invariant_of-self-in-Ok : goal.invariant_of-self-in-Ok

@@ -1,13 +1,14 @@
-use Rattle.spqr_session.specs.Embedded.{no_view}
 use Rattle.std.proofs.Common.{refl}
+use Rattle.spqr_session.specs.Planar.{IsPlaneAt}
 use Rattle.spqr_session.specs.Commands.Draw.{parallel_codes, IsDrawingAnswer}
-use Rattle.spqr_session.proofs.BlockCarried.{block-read, block-missed}
+use Rattle.spqr_session.proofs.PlanarBlocks.{plane-read}
 use Rattle.spqr_session.proofs.commands.draw.carry_draw.Goals as goal
 
-pub returns-in-Some : goal.returns-in-Some
-returns-in-Some c =
-    let found = c.in-Some.ensures.lookup.3 in
-    block-read parallel_codes (λ tree e. refl) (IsDrawingAnswer c.args.b) c.args.blocks.now c.args.b c.in-Some.block.now c.draw_block.result found.0 (found.1 no_view) c.draw_block.ensures
-
-pub returns-in-None : goal.returns-in-None
-returns-in-None c = λ s present. block-missed parallel_codes (λ tree e. refl) (IsDrawingAnswer c.args.b) c.args.blocks.now c.args.b c.line.result c.in-None.ensures.lookup.3 c.line.ensures s
+pub returns-in-Ok : goal.returns-in-Ok
+returns-in-Ok c =
+    let views = c.args.blocks.now in
+    let b = c.args.b in
+    let part = c.in-Ok.part.now in
+    let p = c.in-Ok.plane.now in
+    let there : IsPlaneAt views b part p = c.in-Ok.ensures in
+    plane-read views b part p there parallel_codes (λ tree e. refl) (IsDrawingAnswer b) c.draw_plane.result (c.draw_plane.ensures views there)

@@ -1,14 +1,19 @@
-use Rattle.spqr_session.specs.Embedded.{no_view}
 use Rattle.std.proofs.Common.{refl}
+use Rattle.spqr_session.specs.Embedded.{view_at}
 use Rattle.spqr_session.specs.BlockCodes.{no_more}
+use Rattle.spqr_session.specs.Planar.{IsPlaneAt}
 use Rattle.spqr_session.specs.Commands.Listing.{IsListing}
-use Rattle.spqr_session.proofs.BlockCarried.{block-read, block-missed}
+use Rattle.spqr_session.proofs.MemberLines.{listing-told}
+use Rattle.spqr_session.proofs.PlanarBlocks.{part-there, plane-there, plane-read}
 use Rattle.spqr_session.proofs.commands.listing.carry_list.Goals as goal
 
-pub returns-in-Some : goal.returns-in-Some
-returns-in-Some c =
-    let found = c.in-Some.ensures.lookup.3 in
-    block-read no_more (λ tree e. refl) (IsListing c.args.b c.args.n) c.args.blocks.now c.args.b c.in-Some.block.now c.list_block.result found.0 (found.1 no_view) c.list_block.ensures
-
-pub returns-in-None : goal.returns-in-None
-returns-in-None c = λ s present. block-missed no_more (λ tree e. refl) (IsListing c.args.b c.args.n) c.args.blocks.now c.args.b c.line.result c.in-None.ensures.lookup.3 c.line.ensures s
+pub returns-in-Ok : goal.returns-in-Ok
+returns-in-Ok c =
+    let views = c.args.blocks.now in
+    let b = c.args.b in
+    let v = view_at views b in
+    let part = c.in-Ok.part.now in
+    let p = c.in-Ok.plane.now in
+    let there : IsPlaneAt views b part p = c.in-Ok.ensures in
+    plane-read views b part p there no_more (λ tree e. refl) (IsListing b c.args.n) c.list_plane.result
+    (listing-told v p (plane-there views b part p there) b c.args.n part c.list_plane.result (part-there views b part p there) c.list_plane.ensures)

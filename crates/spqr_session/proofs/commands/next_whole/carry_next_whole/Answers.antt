@@ -1,4 +1,4 @@
-use Rattle.std.proofs.Common.{◌≡◌, List, Some, None, refl, sym, ap, ◌∙◌}
+use Rattle.std.proofs.Common.{◌≡◌, List, Some, refl, sym, ap, ◌∙◌}
 use Rattle.spqr_session.specs.Embedded.{BlockView}
 use Rattle.spqr_session.specs.Scene.{setting_on}
 use Rattle.spqr_session.specs.Board.{state_on}

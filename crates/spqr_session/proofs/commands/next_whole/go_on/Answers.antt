@@ -1,5 +1,4 @@
-use Rattle.std.proofs.Common.{◌≡◌, ℕ, ◌+◌, ◌<◌, true, List, drop, length, slice_index, take_at, refl, sym, ap, ◌∙◌, subst}
-use Rattle.permutations.specs.Members.{is_member}
+use Rattle.std.proofs.Common.{◌≡◌, ℕ, ◌+◌, List, drop, length, take_at, refl, sym, ◌∙◌, subst}
 use Rattle.skeletons.specs.Lists.{IsRank}
 use Rattle.spqr_script.specs.Answers.Change.{end_text}
 use Rattle.whole_embed.specs.declared.members.Member.{Member}

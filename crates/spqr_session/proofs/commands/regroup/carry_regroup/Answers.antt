@@ -1,9 +1,9 @@
-use Rattle.std.proofs.Common.{◌≡◌, List, ℕ, map, refl, sym, subst}
+use Rattle.std.proofs.Common.{◌≡◌, List, map, refl, sym, subst}
 use Rattle.spqr_session.specs.Setting.{IsSetting}
 use Rattle.spqr_session.specs.State.{State}
 use Rattle.spqr_session.specs.Embedded.{BlockView, view_entry}
 use Rattle.spqr_session.specs.Scene.{setting_on}
-use Rattle.spqr_session.specs.Board.{board_state, state_on}
+use Rattle.spqr_session.specs.Board.{board_state}
 use Rattle.spqr_session.specs.Wholes.{AreEntries, IsRegrouping, IsRegrouped}
 use Rattle.spqr_session.specs.Commands.Regroup.{RegroupStep}
 use Rattle.spqr_session.proofs.Steps.{text-map}

@@ -1,4 +1,4 @@
-use Rattle.std.proofs.Common.{◌≡◌, true, false, length, subst, arith, MatchOption}
+use Rattle.std.proofs.Common.{◌≡◌, true, false, subst, arith, MatchOption}
 use Rattle.permutations.specs.Members.{is_member, place_of}
 use Rattle.permutations.proofs.Places.{place-below}
 use Rattle.spqr_session.proofs.commands.regroup.place_in.Goals as goal

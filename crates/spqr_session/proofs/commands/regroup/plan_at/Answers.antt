@@ -3,7 +3,7 @@ use Rattle.permutations.specs.Members.{is_member}
 use Rattle.whole_embed.specs.declared.members.Member.{Member}
 use Rattle.whole_embed.specs.Component.{Component, IsComponentInPlane}
 use Rattle.whole_embed.specs.Cuts.{blocks_in, HavePlanes}
-use Rattle.spqr_session.specs.State.{Embedding, State, component_at, is_planar_component}
+use Rattle.spqr_session.specs.State.{Embedding, component_at, is_planar_component}
 use Rattle.spqr_session.specs.Embedded.{view_entry}
 use Rattle.spqr_session.specs.Scene.{setting_on}
 use Rattle.spqr_session.specs.Wholes.{AreEntries, HasBlocks, IsRegroupedIn, IsRegrouping}

@@ -1,9 +1,8 @@
-use Rattle.std.proofs.Common.{◌≡◌, ◌≤◌, ◌<◌, ℕ, true, false, sym, ap, ◌∙◌, subst, arith}
+use Rattle.std.proofs.Common.{◌≡◌, true, sym, ap, ◌∙◌, subst, arith}
 use Rattle.multigraph.specs.Graph.{Multigraph}
 use Rattle.spqr_session.specs.Scene.{setting_on}
 use Rattle.spqr_session.specs.State.{is_planar_component}
 use Rattle.spqr_session.specs.Wholes.{IsElsewhere}
-use Rattle.spqr_session.specs.Commands.Regroup.{component_number}
 use Rattle.spqr_session.proofs.RegroupCodes.{lowest-not_planar}
 use Rattle.spqr_session.proofs.RegroupMade.{elsewhere-lowest, outside-lowest}
 use Rattle.spqr_session.proofs.commands.regroup.plan_regroup.Goals as goal

@@ -1,16 +1,24 @@
-use Rattle.std.proofs.Common.{map}
-use Rattle.spqr_session.specs.Embedded.{view_tree, no_view}
+use Rattle.std.proofs.Common.{map, refl}
+use Rattle.spqr_session.specs.Embedded.{view_tree, view_at}
 use Rattle.spqr_session.specs.BlockCodes.{entry_codes, read_ladder}
+use Rattle.spqr_session.specs.Planar.{IsPlaneAt}
 use Rattle.spqr_session.specs.Members.{StandsAt}
 use Rattle.spqr_session.specs.Products.{product_rank_codes}
-use Rattle.spqr_session.specs.Planned.{IsPlan, IsPlanAt}
+use Rattle.spqr_session.specs.Planned.{IsPlanAt, IsRankPlan}
 use Rattle.spqr_session.proofs.Steps.{ok-map}
+use Rattle.spqr_session.proofs.PlanarBlocks.{plane-there}
 use Rattle.spqr_session.proofs.Plans.{plan-found}
+use Rattle.spqr_session.proofs.WalkPlans.{rank-plan}
 use Rattle.spqr_session.proofs.commands.walk.plan_rank.Goals as goal
 
-pub returns-in-Some : goal.returns-in-Some
-returns-in-Some c =
+pub returns-in-Ok : goal.returns-in-Ok
+returns-in-Ok c =
     let views = c.args.blocks.now in
-    let v = c.in-Some.block.now in
-    let found = c.in-Some.ensures.lookup.3 in
-    λ s present. ok-map c.rank_of_block.result (IsPlan (entry_codes (product_rank_codes c.args.r) v.tree v.entry) (StandsAt c.args.r) v) (IsPlanAt (read_ladder (product_rank_codes c.args.r) (map view_tree views) c.args.b s) (StandsAt c.args.r) views c.args.b) (λ x h. plan-found (entry_codes (product_rank_codes c.args.r)) (StandsAt c.args.r) views c.args.b s present v x found.0 (found.1 no_view) h) c.rank_of_block.ensures
+    let b = c.args.b in
+    let v = view_at views b in
+    let part = c.in-Ok.field-0-0.now in
+    let p = c.in-Ok.plane.now in
+    let there : IsPlaneAt views b part p = c.in-Ok.ensures in
+    let r = c.args.r in
+    λ s present. ok-map c.rank_of_plane.result (IsRankPlan r p) (IsPlanAt (read_ladder (product_rank_codes r) (map view_tree views) b s) (StandsAt r) views b)
+    (λ x h. plan-found (entry_codes (product_rank_codes r)) (StandsAt r) views b s present v x there.there refl (rank-plan v p (plane-there views b part p there) r x h)) c.rank_of_plane.ensures

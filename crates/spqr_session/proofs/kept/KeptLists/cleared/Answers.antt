@@ -1,4 +1,4 @@
-use Rattle.std.proofs.Common.{List, ℕ, arith, ap, sym, ◌∙◌, subst}
+use Rattle.std.proofs.Common.{arith, ap, sym, ◌∙◌, subst}
 use Rattle.std.proofs.lemmas.List.{take_all}
 use Rattle.spqr_session.specs.Board.{clearings, Clears}
 use Rattle.spqr_session.proofs.ListsSet.{clears-there, clearings-step}
