@@ -25,6 +25,7 @@ fn has_lone_vertex(g: &Graph) -> bool
 
 /// Whether the graph is one block: it has an edge, no vertex without edges, and all its edges are in the same block. Takes
 /// linear time and room, as `split` does. Fails only if memory runs out.
+/// For callers of the library: the program does not call it.
 pub fn is_one_block(alloc: Global, g: &Graph) -> Result<bool, AllocError>
     ensures { IfOk result (λ answer. (answer ≡ true) ↔ IsOneBlock g.now) }
 {

@@ -6,14 +6,11 @@ use Rattle.std.proofs.lemmas.List.Sorted.{IsPermutation-cons, IsPermutation-midd
 use Rattle.permutations.specs.Members.{is_member, is_distinct}
 use Rattle.permutations.proofs.Members.{no_member-head, no_member-tail, distinct-head, distinct-tail}
 use Rattle.choice_lists.specs.Arrangements.{factorial, factorial_number, IsNextArrangement}
+pub use Rattle.choice_lists.specs.Falling.{Falls}
 use Rattle.choice_lists.proofs.Places.{At, at-get, at-within, Above, Ascends, ascends-from, rising-from, ascends-append, ascends-reverse, ascends-front, ascends-back, ascends-across}
 use Rattle.choice_lists.proofs.Smaller.{smaller, smaller-yes, smaller-no, smaller-none, smaller-all, smaller-append, smaller-permuted}
 use Rattle.choice_lists.proofs.TakenOut.{two-swapped}
 use Rattle.choice_lists.proofs.Arrangements.{rising-number, falling-number, number-below}
-
--- each member is greater than all later ones
-abbrev pub Falls : List ℕ → Type 0
-Falls l = Ascends (λ x y. nat_lt y x) l
 
 -- all members are smaller than x
 abbrev pub Below : List ℕ → ℕ → Type 0

@@ -3,12 +3,7 @@ use Rattle.std.proofs.Common.{◌≡◌, ℕ, zero, suc, ◌+◌, ◌<◌, ◌�
 use Rattle.std.proofs.lemmas.List.{reverse-append}
 use Rattle.std.proofs.lemmas.Bool.{both_ways}
 use Rattle.choice_lists.specs.Order.{IsRising, IsAt}
-
--- x stands at place i
-abbrev pub At : {X : Type 0} → List X → ℕ → X → Type 0
-At [] i x = ⊥
-At (y ∷ l) zero x = y ≡ x
-At (y ∷ l) (suc i) x = At l i x
+pub use Rattle.choice_lists.specs.Falling.{At, Above, Ascends}
 
 -- x stands at some place
 abbrev pub Has : {X : Type 0} → List X → X → Type 0
@@ -89,15 +84,6 @@ pub at-map_back : {X Y : Type 0} (f : X → Y) (l : List X) (i : ℕ) (y : Y) �
 at-map_back f [] i y a = absurd a
 at-map_back f (x ∷ l) zero y a = (x, refl, a)
 at-map_back f (x ∷ l) (suc i) y a = at-map_back f l i y a
-
--- x comes before all members
-abbrev pub Above : {X : Type 0} → (X → X → Bool) → X → List X → Type 0
-Above {X} before x l = (i : ℕ) (y : X) → At l i y → before x y ≡ true
-
--- strictly rising, by recursion
-abbrev pub Ascends : {X : Type 0} → (X → X → Bool) → List X → Type 0
-Ascends before [] = Unit {0}
-Ascends before (x ∷ l) = Above before x l × Ascends before l
 
 -- from the public form
 pub ascends-from : {X : Type 0} (before : X → X → Bool) (l : List X) → IsRising before l → Ascends before l

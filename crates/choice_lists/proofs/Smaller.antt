@@ -7,11 +7,8 @@ use Rattle.std.proofs.lemmas.List.Sorted.{sum_by-IsPermutation}
 use Rattle.permutations.specs.Members.{is_member, is_distinct}
 use Rattle.permutations.proofs.Members.{member-tail, member-cases, distinct-head, distinct-tail, distinct-cons}
 use Rattle.permutations.proofs.Arrangements.{permutation-member, permutation-distinct, permutation-from_members, contains-from_member, member-from_contains}
+pub use Rattle.choice_lists.specs.Falling.{smaller}
 use Rattle.choice_lists.proofs.Places.{At, Has, has-from, contains-from, Ascends}
-
--- the number of members smaller than x
-abbrev pub smaller : ℕ → List ℕ → ℕ
-smaller x l = count_by (λ y. nat_lt y x) l
 
 -- one for true
 abbrev one : Bool → ℕ

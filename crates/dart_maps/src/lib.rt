@@ -37,7 +37,16 @@
 //   Rounds       ring-in-order: the order around a vertex, from its ring as a list
 #![tactic(auto)]
 
-ghost use Rattle.dart_maps.specs.Laws.{BondIsPlane, ContractionKeepsComponents, ContractionKeepsDefect, ContractionKeepsPlane, CornerCut, DropKeepsDefect, EulersInequality, FlipAloneKeepsAll, FlipAtOneKeepsAll, FlipKeepsComponents, FlipKeepsDefect, FlipKeepsFaces, FlipKeepsVertices, GluingCornersKeepsDefect, GluingKeepsPlane, InsertAcrossFaces, InsertKeepsDefect, InsertPartsFace, MirrorKeepsCounts, MirrorKeepsPlane, NoncrossingAlongEdge, NoncrossingAtVertex, PathKeepsDefect, PathLiesInFace, PathPartsFace, PlaneInParts, RenumberingKeepsPlane, RestrictionIsMap, RestrictionKeepsPlane, RestrictionKeepsVertices, RingTellsOrder, SmoothingAllKeepsPlane, SmoothingKeepsPlane, SplitKeepsPlane};
+ghost use Rattle.dart_maps.specs.Laws.{BondIsPlane, ContractionKeepsComponents, ContractionKeepsDefect};
+ghost use Rattle.dart_maps.specs.Laws.{ContractionKeepsPlane, CornerCut, DropKeepsDefect, EulersInequality};
+ghost use Rattle.dart_maps.specs.Laws.{FlipAloneKeepsAll, FlipAtOneKeepsAll, FlipKeepsComponents, FlipKeepsDefect};
+ghost use Rattle.dart_maps.specs.Laws.{FlipKeepsFaces, FlipKeepsVertices, GluingCornersKeepsDefect};
+ghost use Rattle.dart_maps.specs.Laws.{GluingKeepsPlane, InsertAcrossFaces, InsertKeepsDefect, InsertPartsFace};
+ghost use Rattle.dart_maps.specs.Laws.{MirrorKeepsCounts, MirrorKeepsPlane, NoncrossingAlongEdge};
+ghost use Rattle.dart_maps.specs.Laws.{NoncrossingAtVertex, PathKeepsDefect, PathLiesInFace, PathPartsFace};
+ghost use Rattle.dart_maps.specs.Laws.{PlaneInParts, RenumberingKeepsPlane, RestrictionIsMap, RestrictionKeepsPlane};
+ghost use Rattle.dart_maps.specs.Laws.{RestrictionKeepsVertices, RingTellsOrder, SmoothingAllKeepsPlane};
+ghost use Rattle.dart_maps.specs.Laws.{SmoothingKeepsPlane, SplitKeepsPlane};
 
 /// Euler's inequality: in every map of darts, V + F is at most E + 2C.
 pub fn eulers_inequality()

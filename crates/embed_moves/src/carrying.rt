@@ -21,6 +21,7 @@ pub fn carry_out(p: &mut PlaneBlock, m: &Move)
 
 /// The move that leads back to the current rotation system from where `m` leads: the same flip, or a permute to the current
 /// choice. Fails only if memory runs out.
+/// For callers of the library: the program does not call it.
 pub fn back(alloc: Global, p: &PlaneBlock, m: &Move) -> Result<Move, AllocError>
     requires { Fits p.now.tree (as_move m.now) }
     ensures leads { IfOk result (λ b. LeadsBack p.now (as_move m.now) (as_move b)) }

@@ -65,10 +65,10 @@ static TWO: [(u32, u32); 12] = [
     (5, 6),
 ];
 
-// What is told of lists: the number of steps, or the refusal by the number that is printed for it, and its numbers.
+// What is answered to lists: the number of steps, or the refusal by the number that is printed for it, and its numbers.
 type Told = (usize, u32, u32, u32);
 
-// Vertices with lists, and what is told of them.
+// Vertices with lists, and what is answered to these.
 type Given = (&'static [(u32, Order)], Told);
 
 static CHAIN_GIVEN: [Given; 3] = [
@@ -113,7 +113,7 @@ static ALONE_GIVEN: [Given; 3] = [
     (&[(0, &[])], (6, 0, 0, 0)),
 ];
 
-// Nodes of blocks that are locked, and what is told then of the lists in which both complete graphs are turned over.
+// Nodes of blocks that are locked, and what is answered then to the lists in which both complete graphs are turned over.
 type Locked = (&'static [(u32, u32)], Told);
 
 static TWO_LOCKED: [Locked; 3] = [
@@ -212,7 +212,7 @@ fn lead_in_four(steps: &[WholeMove], from: usize, to: usize) -> bool
     }
 }
 
-// What an answer tells.
+// What an answer says.
 fn told(answer: Result<Vec<WholeMove>, WholeFault>) -> Told {
     match answer {
         Ok(steps) => (steps.len(), 0, 0, 0),
@@ -235,7 +235,7 @@ fn lists_of(alloc: Global, rows: &'static [(u32, Order)]) -> Result<Lists, Alloc
     Ok(lists)
 }
 
-// Whether all that is told of lists is as the table wants.
+// Whether all answers to lists are as the table wants.
 fn are_told(alloc: Global, walk: &Walk, given: &'static [Given]) -> Result<bool, Fail> {
     for (rows, wanted) in given {
         let lists = lists_of(alloc, *rows)?;

@@ -149,7 +149,7 @@ static TURNED: Stretch = Stretch {
     ],
 };
 
-// A vertex, a list for it, and what is told of this.
+// A vertex, a list for it, and what is answered.
 type Given = (u32, Order, (u32, u32, u32));
 
 // Whether lists are given to `set` or to `regroup`, the lists, and the place of the member that is there after them.
@@ -269,7 +269,7 @@ fn is_member(lists: &Lists, rounds: &'static [Order], member: &'static [(u32, Or
     true
 }
 
-// Whether the walk stands at member `i` of a stretch.
+// Whether the walk is at member `i` of a stretch.
 fn stands_at(
     alloc: Global,
     walk: &Walk,
@@ -282,7 +282,7 @@ fn stands_at(
     }
 }
 
-// Whether the walk stands at member `from` of a stretch and goes on through all that follow in it.
+// Whether the walk is at member `from` of a stretch and continues through all that follow in it.
 fn goes_through(
     alloc: Global,
     walk: &mut Walk,
@@ -369,7 +369,7 @@ fn count_after(alloc: Global, graph: &Placed) -> Result<u32, Fail> {
     Ok(steps(&mut first_of(alloc, graph, 0)?, 100))
 }
 
-// What is told of a list for a cut vertex: 0 where it is taken, 15 where there is no cut vertex, else the refusal by the number that
+// What is answered to a list for a cut vertex: 0 where it is taken, 15 where there is no cut vertex, else the refusal by the number that
 // is printed for it, and its numbers.
 fn told(answer: Result<bool, RegroupFault>) -> (u32, u32, u32) {
     match answer {
@@ -382,7 +382,7 @@ fn told(answer: Result<bool, RegroupFault>) -> (u32, u32, u32) {
     }
 }
 
-// Whether of each list is told what a table has.
+// Whether the answer to each list is the one in a table.
 fn answers(alloc: Global, walk: &mut Walk, by_set: bool, rows: &'static [Given]) -> bool {
     for (v, edges, wanted) in rows {
         let answer = if by_set {

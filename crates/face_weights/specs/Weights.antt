@@ -1,4 +1,4 @@
--- The weights of the links of a tree with a root: each has two, one in each direction, told at its lower node.
+-- The weights of the links of a tree with a root: each has two, one in each direction, kept at its lower node.
 use Rattle.std.specs.Prelude.{◌≡◌, ℕ, ◌==◌, cond, List, length, slice_index_or}
 use Rattle.pair_split.specs.Tutte.{Node, node_item}
 use Rattle.pair_split.specs.declared.components.What.{What}

@@ -15,7 +15,11 @@
 //   MapToLists     map-orders, orders-told: from a map to the lists
 
 ghost use Rattle.faces.specs.FaceLists.{EachPairIsListedOnce, FacesAreOrbits, ListedFacesAreCounted};
-ghost use Rattle.faces.specs.Laws.{EdgeOnTwoFaces, EulersInequality, FacePassesOnce, IsolatedVerticesBesides, MapHasComponents, MapHasFaces, MapHasVertices, MapIsRotationSystem, MapTellsRotationSystem, MirrorDiffers, MirrorGoesBack, MirrorIsRotationSystem, MirrorKeepsFaces, MirrorKeepsPlane, MirrorTwice, PlaneWhereMapIs, RestrictionExists, RestrictionKeepsPlane, RotationSystemIsMap};
+ghost use Rattle.faces.specs.Laws.{EdgeOnTwoFaces, EulersInequality, FacePassesOnce, IsolatedVerticesBesides};
+ghost use Rattle.faces.specs.Laws.{MapHasComponents, MapHasFaces, MapHasVertices, MapIsRotationSystem};
+ghost use Rattle.faces.specs.Laws.{MapTellsRotationSystem, MirrorDiffers, MirrorGoesBack, MirrorIsRotationSystem};
+ghost use Rattle.faces.specs.Laws.{MirrorKeepsFaces, MirrorKeepsPlane, MirrorTwice, PlaneWhereMapIs};
+ghost use Rattle.faces.specs.Laws.{RestrictionExists, RestrictionKeepsPlane, RotationSystemIsMap};
 
 /// Euler's inequality (Euler 1758, Heffter 1891): for every rotation system of every graph, V + F is at most E + 2C.
 pub fn eulers_inequality()

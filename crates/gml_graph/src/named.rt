@@ -55,6 +55,7 @@ impl Named {
     }
 
     /// The vertex with this id, or None if no vertex has it. Takes no memory.
+    /// For callers of the library: the program does not call it.
     pub fn vertex_of(&self, id: i64) -> Option<u32>
         ensures vertex { (v : ℕ) → (result ≡ Some v) ↔ (slice_get self.now.ids v ≡ Some id) }
         ensures none { IsNone result ↔ ((v : ℕ) → slice_get self.now.ids v ≢ Some id) }

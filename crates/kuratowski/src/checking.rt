@@ -157,6 +157,7 @@ pub fn is_subdivision(alloc: Global, g: &Graph, s: &Subdivision) -> Result<bool,
 }
 
 /// Whether `s` is a subdivision of its pattern in `g`, in its written form. In linear time. Fails only if memory runs out.
+/// For callers of the library: the program does not call it.
 pub fn check(alloc: Global, g: &Graph, s: &Subdivision) -> Result<bool, AllocError>
     ensures exact { IfOk result
         (λ held. (held ≡ true) ↔ IsWritten g.now s.now.kind s.now.branch s.now.paths) }

@@ -43,6 +43,7 @@ impl Graph {
     /// Fails with the first fault in this order: more than 20,000 vertices, more than 50,000 edges, then the least edge that
     /// has an end that is not a vertex or whose ends are the same, the first of these two where both hold. Else fails only if
     /// memory runs out.
+    /// For callers of the library: the program does not call it.
     pub fn build(alloc: Global, n: u32, ends: &[(u32, u32)]) -> Result<Graph, BuildFault>
         ensures built { IfOk result (λ g. g ≡ multigraph_of n ends.now) }
         ensures graph { IfOk result IsGraph }

@@ -21,6 +21,7 @@ use step_count::Steps;
 
 /// The plain splitter. It splits off a smallest side of a 2-separation, found by trying all pairs of vertices, as long as
 /// there is one (about n * n * (n + m) steps a side, for n vertices and m edges).
+/// For callers of the library: the program does not call it.
 #[derive(Debug, Drop)]
 pub struct PairSplitter;
 

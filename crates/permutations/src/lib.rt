@@ -35,7 +35,15 @@
 //                where nothing crosses; RunsByKey group-filter, groups-by_key: the run of a member, and of a key
 #![tactic(auto)]
 
-ghost use Rattle.permutations.specs.Laws.{ConnectionIsEquivalence, ConnectionIsLeast, ExchangeJoins, ExchangeParts, FinerHasMore, FinerIsSame, InjectionsCount, LinkBetweenClasses, LinkWithinAClass, LinksConnect, MirrorGoesBack, MirrorTwice, NormalFormsTellOrders, OrbitsAreReached, PredecessorOfSuccessor, RenumberingKeepsClasses, RingFollows, RingHoldsOrbit, RingIsDistinct, RingParted, RingTakenOut, RingsJoined, RunsAreUnique, RunsToldByKeys, RunsWhereNothingCrosses, SizesAddUp, SuccessorOfPredecessor, SuccessorStays, SuccessorsTellLists, TurnedBegins, TurnedKeepsSuccessors, TurnedRearranges, TwoShareAHole};
+ghost use Rattle.permutations.specs.Laws.{ConnectionIsEquivalence, ConnectionIsLeast, ExchangeJoins, ExchangeParts};
+ghost use Rattle.permutations.specs.Laws.{FinerHasMore, FinerIsSame, InjectionsCount, LinkBetweenClasses};
+ghost use Rattle.permutations.specs.Laws.{LinkWithinAClass, LinksConnect, MirrorGoesBack, MirrorTwice};
+ghost use Rattle.permutations.specs.Laws.{NormalFormsTellOrders, OrbitsAreReached, PredecessorOfSuccessor};
+ghost use Rattle.permutations.specs.Laws.{RenumberingKeepsClasses, RingFollows, RingHoldsOrbit, RingIsDistinct};
+ghost use Rattle.permutations.specs.Laws.{RingParted, RingTakenOut, RingsJoined, RunsAreUnique, RunsToldByKeys};
+ghost use Rattle.permutations.specs.Laws.{RunsWhereNothingCrosses, SizesAddUp, SuccessorOfPredecessor};
+ghost use Rattle.permutations.specs.Laws.{SuccessorStays, SuccessorsTellLists, TurnedBegins, TurnedKeepsSuccessors};
+ghost use Rattle.permutations.specs.Laws.{TurnedRearranges, TwoShareAHole};
 
 /// The pigeonhole principle: of n + 1 numbers below n two are equal; and what is carried one to one into a set is no more
 /// than the set.

@@ -118,6 +118,7 @@ impl Rings {
     }
 
     /// Takes node `d` out of its ring: it is alone then, and the nodes before and after it are adjacent.
+    /// For callers of the library: the program does not call it.
     pub fn unlink(&mut self, d: u32)
         requires { d < length self.old.next }
         ensures { AreNow self.old self.new (unlink d (slice_index self.old.next)) }

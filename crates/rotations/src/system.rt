@@ -144,6 +144,7 @@ impl Rotation {
     /// that the graph names first; this the contract can't say, since the cyclic orders are also those of the graph in which the
     /// two ends of e have changed places. It says that the two nodes leave the two ends, one each, of whatever graph the value
     /// is a rotation system of.
+    /// For callers of the library: the program does not call it.
     pub fn rings(&self) -> &Rings
         ensures { (tails : List ℕ) × StandOnRings self.now result.now tails }
     {
@@ -166,6 +167,7 @@ impl Rotation {
 
     /// Reverses the run of edges from `first` to `last` around `v` in its place, in as many steps as it has edges; it is all of
     /// them where `first` follows `last`. Takes no memory.
+    /// For callers of the library: the program does not call it.
     pub fn turn_run(&mut self, v: u32, first: u32, last: u32)
         requires first { Contains (order_at self.old v) first }
         requires last { Contains (order_at self.old v) last }
@@ -219,6 +221,7 @@ impl Rotation {
     }
 
     /// Whether the other has equally many vertices and the same cyclic order at each.
+    /// For callers of the library: the program does not call it.
     pub fn same(&self, other: &Rotation) -> bool
         ensures { IsTrue result ↔ (self.now ≡ other.now) }
     {

@@ -18,7 +18,7 @@
 //   Written   written, kept: what a table has after an entry is written; put-table, put-has, put-keeps
 //   Ahead     follows-here: what is written is right; ahead-starts, ahead-goes, ahead-ends: what a walk has still to write
 //   Complete  all-followers: with what follows the last edges of all runs a table has what follows each item
-//   Stepped   follower-dart: what follows an item tells the face step; steps-push: the steps of one node more
+//   Stepped   follower-dart: what follows an item gives the face step; steps-push: the steps of one node more
 //   Gathered  items-start, item-next: items gone around in the table; member-made, members-all: the members made of them
 #![tactic(auto)]
 

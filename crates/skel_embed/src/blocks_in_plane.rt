@@ -4,9 +4,8 @@ ghost use Rattle.std.specs.Prelude.{◌≡◌, ◌<◌, ◌++◌, ℕ, true, fal
 ghost use Rattle.permutations.specs.Members.{is_member};
 ghost use Rattle.multigraph.specs.Graph.{Multigraph};
 ghost use Rattle.rotations.specs.Rotation.{order_at, IsRotationSystem};
-ghost use Rattle.skeletons.specs.Items.{IsBlockTree};
+ghost use Rattle.skeletons.specs.Items.{nth_item, IsBlockTree};
 ghost use Rattle.skeletons.specs.Families.{skeleton_graph, AreSkeletonSystems};
-ghost use Rattle.skeletons.proofs.NodeItems.{nth_item};
 ghost use Rattle.skel_embed.specs.First.{choice_in, AreFirstMembers, IsFirst};
 ghost use Rattle.skel_embed.specs.Flat.{AreFlat};
 ghost use Rattle.skel_embed.specs.Outcomes.{IsFoundBySkeletons, choices_in};

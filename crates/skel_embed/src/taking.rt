@@ -41,7 +41,7 @@ pub(crate) fn given(
     ensures plane { IfOk result (IsPlaneSystem g.now) }
     ensures refused { IfErr result (IsGivenRefusal part.now lists.now) }
 {
-    let _ = part.graph();
+    let _ = part.graph(); // for its promise alone
     let r = match Rotation::from_part(alloc, part, lists) {
         Ok(r) => r,
         Err(fault) => match fault {

@@ -1,6 +1,10 @@
 // The laws of skeletons: each is a function without a body, whose contract is the theorem.
 
-ghost use Rattle.skeletons.specs.Laws.{ContiguousFollows, FamilyIsFollowed, FamilyIsUnique, FlipExists, FlipTurnsChoice, FollowerIsUnique, KeptListIsUnique, KeysMetAreOfRuns, KeysRoundAreOfItems, MirrorTurnsChoices, MoveIsUnique, MoveKeepsContiguous, MoveKeepsOthers, MovesNameDifferent, PermuteExists, PermuteSetsChoice, PrecedesIsTested, UnlockedListIsFull};
+ghost use Rattle.skeletons.specs.Laws.{ContiguousFollows, FamilyIsFollowed, FamilyIsUnique, FlipExists};
+ghost use Rattle.skeletons.specs.Laws.{FlipTurnsChoice, FollowerIsUnique, KeptListIsUnique, KeysMetAreOfRuns};
+ghost use Rattle.skeletons.specs.Laws.{KeysRoundAreOfItems, MirrorTurnsChoices, MoveIsUnique, MoveKeepsContiguous};
+ghost use Rattle.skeletons.specs.Laws.{MoveKeepsOthers, MovesNameDifferent, PermuteExists, PermuteSetsChoice};
+ghost use Rattle.skeletons.specs.Laws.{PrecedesIsTested, UnlockedListIsFull};
 
 /// The law that the keys reached around a vertex at which the groups of a node are in runs are the keys of the runs, in their
 /// cyclic order from the least on, and those of the node's items at the vertex.

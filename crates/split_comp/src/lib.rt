@@ -7,8 +7,8 @@
 // none. Each step keeps this, as it splits off a least side inside the stack as soon as there is one:
 //   * two parallel entries, the lower one a frond: a bond;
 //   * two tree edges, where no other entry meets the vertex between them: a triangle;
-//   * the entries behind a cut of the stack: such a cut, of a vertex on the path and a place where a dart of that vertex starts,
-//     is kept for as long as the upper ends behind it may be the other vertex of a pair. A frond between the two stays apart;
+//   * the entries after a cut of the stack: such a cut, of a vertex on the path and a place where a dart of that vertex starts,
+//     is kept for as long as the upper ends after it may be the other vertex of a pair. A frond between the two stays apart;
 //   * all below a child from which only one vertex above its parent is reached, where two entries are left beside it.
 //
 // `SearchSplitter` satisfies the contract of pair_split's trait `Splitter`. `split_counted` counts the turns of all loops, and

@@ -76,8 +76,7 @@ impl NumberedPalmTree {
         requires within { x < g.now.vertex_count }
         ensures { result ≡ tree_degree self.now.palm self.now.vertex x }
     {
-        // The graph is known to the contract alone.
-        let _ = g;
+        let _ = g; // for the contract alone
         self.palm.darts(self.vertex_at(x)).len()
     }
 
@@ -120,8 +119,7 @@ impl NumberedPalmTree {
         requires within { x < g.now.vertex_count }
         ensures { result ≡ tree_parent self.now.palm self.now.vertex x }
     {
-        // The graph is known to the contract alone.
-        let _ = g;
+        let _ = g; // for the contract alone
         match self.palm.parent(self.vertex_at(x)) {
             Some(p) => self.palm.number(p),
             None => 0,

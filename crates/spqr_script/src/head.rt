@@ -18,6 +18,7 @@ pub fn graph_line(alloc: Global, n: u32, m: u32) -> Result<Vec<u8>, AllocError>
 }
 
 /// The line `vertex V ID`: a vertex and its id in the file. Fails only if memory runs out.
+/// For callers of the library: the program does not call it.
 pub fn vertex_line(alloc: Global, v: u32, id: i64) -> Result<Vec<u8>, AllocError>
     ensures { IfOk result (λ text. text.items ≡ vertex_text v id) }
 {
@@ -38,6 +39,7 @@ pub fn push_vertex_line(out: &mut Vec<u8>, v: u32, id: i64) -> Result<(), AllocE
 }
 
 /// The line `cut V`: a cut vertex. Fails only if memory runs out.
+/// For callers of the library: the program does not call it.
 pub fn cut_line(alloc: Global, v: u32) -> Result<Vec<u8>, AllocError>
     ensures { IfOk result (λ text. text.items ≡ cut_text v) }
 {
@@ -56,6 +58,7 @@ pub fn push_cut_line(out: &mut Vec<u8>, v: u32) -> Result<(), AllocError>
 }
 
 /// The line `block B: E E ..`: a block and its edges, in the order given. Fails only if memory runs out.
+/// For callers of the library: the program does not call it.
 pub fn block_line(alloc: Global, b: u32, edges: &[u32]) -> Result<Vec<u8>, AllocError>
     ensures { IfOk result (λ text. text.items ≡ block_text b edges.now) }
 {
@@ -76,6 +79,7 @@ pub fn push_block_line(out: &mut Vec<u8>, b: u32, edges: &[u32]) -> Result<(), A
 }
 
 /// The line `planar B`: the block has a plane rotation system. Fails only if memory runs out.
+/// For callers of the library: the program does not call it.
 pub fn planar_line(alloc: Global, b: u32) -> Result<Vec<u8>, AllocError>
     ensures { IfOk result (λ text. text.items ≡ planar_text b) }
 {

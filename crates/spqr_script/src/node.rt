@@ -71,6 +71,7 @@ pub fn push_node_line(out: &mut Vec<u8>, part: &Part, t: &Tree, k: u32) -> Resul
 
 /// The line `node K KIND V V .. | ITEM ITEM ..`: node `k` of the tree of a part, in the numbers of the whole graph.
 /// Fails only if memory runs out.
+/// For callers of the library: the program does not call it.
 pub fn node_line(alloc: Global, part: &Part, t: &Tree, k: u32) -> Result<Vec<u8>, AllocError>
     requires node { k < length t.now }
     requires within { IsNodeOf part.now (node_at t.now k) }

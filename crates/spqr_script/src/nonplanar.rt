@@ -88,6 +88,7 @@ pub fn push_nonplanar_lines(
 
 /// The line `nonplanar B K5 V ..` or `nonplanar B K33 V ..`, and the line `path U W: E E ..` of each path: a subdivision in a
 /// block, in the numbers of the whole graph. Fails only if memory runs out.
+/// For callers of the library: the program does not call it.
 pub fn nonplanar_lines(
     alloc: Global,
     b: u32,

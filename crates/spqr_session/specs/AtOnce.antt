@@ -1,4 +1,4 @@
--- Moves of one block made in one pass: the block that stands in its place then.
+-- Moves of one block made in one pass: the block that is in its place then.
 use Rattle.std.specs.Prelude.{◌≡◌, ℕ, List, map, slice_set, Option, None, Some, ⊤}
 use Rattle.skeletons.specs.Moves.{Move}
 use Rattle.skel_embed.specs.Values.{as_move}

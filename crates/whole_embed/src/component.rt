@@ -84,7 +84,7 @@ impl Frame {
         ensures numbered { IsNumbered self.now.part }
         ensures frame { IsFrame self.now }
     {
-        let _ = self.part.graph();
+        let _ = self.part.graph(); // for its promise alone
         &self.part
     }
 

@@ -39,7 +39,7 @@ pub(crate) fn renew(frame: &Frame, all: &[Member], v: u32, orders: &mut VertexOr
         (block_order (blocks_in all.now) v) }
     ensures tables { KeepsTables frame.now v orders.new }
 {
-    let _ = orders.degree();
+    let _ = orders.degree(); // for its promise alone
     let part = frame.part();
     let i = part.inner_vertex(v).unwrap();
     for inner in part.graph().incident(i) {
