@@ -1,5 +1,5 @@
 -- What the words that the program is called with ask for.
-use Rattle.std.specs.Prelude.{ℕ, ◌^◌, Bool, true, not, ◌==◌, nat_le, if◌then◌else◌, List, [], ◌∷◌, Option, None, Some, option_and_then, bytes_eq, codes}
+use Rattle.std.specs.Prelude.{ℕ, ◌+◌, ◌^◌, Bool, true, not, ◌==◌, nat_le, if◌then◌else◌, List, [], ◌∷◌, Option, None, Some, option_and_then, bytes_eq, codes}
 use Rattle.std.specs.List.{list_all}
 use Rattle.decimals.specs.Number.{number_below}
 use Rattle.command_words.specs.declared.forms.Form.{Form}
@@ -25,6 +25,13 @@ abbrev pub at_least : ℕ → Option ℕ → Option ℕ
 at_least m None = None
 at_least m (Some n) = (if nat_le m n then Some n else None)
 
+-- the least and the greatest number of edges of a graph to be made
+abbrev pub least_edges : ℕ
+least_edges = 6
+
+abbrev pub greatest_edges : ℕ
+greatest_edges = 20000
+
 -- a graph to be made, where both numbers are there
 abbrev pub make_of : Option ℕ → Option ℕ → Option Asked
 make_of None seed = None
@@ -35,7 +42,7 @@ make_of (Some n) (Some seed) = Some (Make n seed)
 -- decimal digits
 abbrev pub command_of : List ℕ × List ℕ × List ℕ → Option Asked
 command_of words =
-    (if bytes_eq words.0 (codes "run") then Some (Run words.1 words.2) else (if bytes_eq words.0 (codes "make") then make_of (at_least 6 (number_below 20001 words.1)) (number_below (2 ^ 64) words.2) else None))
+    (if bytes_eq words.0 (codes "run") then Some (Run words.1 words.2) else (if bytes_eq words.0 (codes "make") then make_of (at_least least_edges (number_below (greatest_edges + 1) words.1)) (number_below (2 ^ 64) words.2) else None))
 
 -- exactly three words
 abbrev pub three_in : List (List ℕ) → Option (List ℕ × List ℕ × List ℕ)

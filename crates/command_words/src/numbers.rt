@@ -1,7 +1,7 @@
 // Numbers in the words.
-ghost use Rattle.std.specs.Prelude.{◌≡◌, ◌^◌};
+ghost use Rattle.std.specs.Prelude.{◌≡◌, ◌+◌, ◌^◌};
 ghost use Rattle.decimals.specs.Number.{number_below};
-ghost use Rattle.command_words.specs.Form.{at_least};
+ghost use Rattle.command_words.specs.Form.{at_least, least_edges, greatest_edges};
 
 use decimals::number_up_to;
 
@@ -12,7 +12,7 @@ const GREATEST: u64 = 20_000;
 
 // The number of edges of a graph that is to be made.
 pub(crate) fn edges(word: &str) -> Option<u32>
-    ensures { result ≡ at_least 6 (number_below 20001 word.now) }
+    ensures { result ≡ at_least least_edges (number_below (greatest_edges + 1) word.now) }
 {
     let n = number_up_to(word.as_bytes(), GREATEST)? as u32;
     if n >= LEAST { Some(n) } else { None }

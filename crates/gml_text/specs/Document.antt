@@ -23,9 +23,13 @@ depth (number key text rest) = depth rest
 depth (string key text rest) = depth rest
 depth (list key inner rest) = max (depth inner + 1) (depth rest)
 
+-- how deep lists may be nested
+abbrev pub max_depth : ℕ
+max_depth = 32
+
 -- a list is nested in at most 31 other lists
 abbrev pub IsWithinDepth : Document → Type 0
-IsWithinDepth d = depth d ≤ 32
+IsWithinDepth d = depth d ≤ max_depth
 
 -- the pairs of one document, and then those of another
 abbrev pub append : Document → Document → Document

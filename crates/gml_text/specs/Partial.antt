@@ -1,6 +1,6 @@
 -- A document of which some pairs have been read, with the lists that are open.
 use Rattle.std.specs.Prelude.{◌≡◌, ℕ, ◌<◌, ◌≤◌, true, List, [], ◌∷◌, ◌++◌, length, Option, Some, None, Result, Ok, Err}
-use Rattle.gml_text.specs.Document.{Document, empty, number, string, list, append, IsWithinDepth}
+use Rattle.gml_text.specs.Document.{Document, empty, number, string, list, append, max_depth, IsWithinDepth}
 use Rattle.gml_text.specs.Grammar.{is_gap, CloseStands, PairsStand}
 use Rattle.gml_text.specs.Pairs.{document_of, pair_before}
 use Rattle.gml_text.specs.Reading.{Follows}
@@ -89,7 +89,7 @@ IsRefused p bytes left = Breaks (CanFinish p bytes) (NeverFinishes p) bytes left
 abbrev pub IsTaken : List ℕ → Found → Partial → Partial → Type 0
 IsTaken key (Number text) old new = (frames_of new ≡ frames_of old) × (pairs_of new ≡ append (pairs_of old) (number key text.now empty))
 IsTaken key (Text text) old new = (frames_of new ≡ frames_of old) × (pairs_of new ≡ append (pairs_of old) (string key text.now empty))
-IsTaken key Open old new = (frames_of new ≡ record { before = pairs_of old; key = key } ∷ frames_of old) × (pairs_of new ≡ empty) × (length (frames_of old) < 32)
+IsTaken key Open old new = (frames_of new ≡ record { before = pairs_of old; key = key } ∷ frames_of old) × (pairs_of new ≡ empty) × (length (frames_of old) < max_depth)
 
 -- a list that would be nested too deep
 abbrev pub IsTooDeep : Found → Partial → Type 0

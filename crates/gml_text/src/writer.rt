@@ -1,7 +1,7 @@
 // The writer of documents.
 
 ghost use Rattle.std.specs.Prelude.{◌≡◌, ◌+◌, ◌≤◌, ◌++◌, OnOk, IfOk};
-ghost use Rattle.gml_text.specs.Document.{empty, depth};
+ghost use Rattle.gml_text.specs.Document.{empty, depth, max_depth};
 ghost use Rattle.gml_text.specs.Pairs.{pair_before};
 ghost use Rattle.gml_text.specs.Grammar.{Spells};
 ghost use Rattle.gml_text.specs.Layout.{indent, number_line, string_line, open_line, close_line, lines, written};
@@ -24,7 +24,7 @@ pub fn write(alloc: Global, d: &Doc) -> Result<Vec<u8>, AllocError>
 // Writes the lines of pairs within this many lists.
 #[cycle(lines)]
 fn write_pairs(out: &mut Vec<u8>, lists: usize, pairs: &Pairs) -> Result<(), AllocError>
-    requires { lists + depth pairs.now ≤ 32 }
+    requires { lists + depth pairs.now ≤ max_depth }
     ensures { OnOk result (out.new.items ≡ out.old.items ++ lines lists pairs.now) }
 {
     for pair in pairs.as_slice() {
@@ -36,7 +36,7 @@ fn write_pairs(out: &mut Vec<u8>, lists: usize, pairs: &Pairs) -> Result<(), All
 // Writes the lines of one pair within this many lists.
 #[cycle(lines)]
 fn write_pair(out: &mut Vec<u8>, lists: usize, pair: &Pair) -> Result<(), AllocError>
-    requires { lists + depth (pair_before pair.now.key pair.now.value empty) ≤ 32 }
+    requires { lists + depth (pair_before pair.now.key pair.now.value empty) ≤ max_depth }
     ensures { OnOk result (out.new.items ≡ out.old.items
         ++ lines lists (pair_before pair.now.key pair.now.value empty)) }
 {
@@ -54,7 +54,7 @@ fn write_pair(out: &mut Vec<u8>, lists: usize, pair: &Pair) -> Result<(), AllocE
 
 // Writes two spaces for each list.
 fn indent(out: &mut Vec<u8>, lists: usize) -> Result<(), AllocError>
-    requires { lists ≤ 32 }
+    requires { lists ≤ max_depth }
     ensures { OnOk result (out.new.items ≡ out.old.items ++ indent lists) }
 {
     out.resize(out.len() + 2 * lists, b' ')?;
@@ -63,7 +63,7 @@ fn indent(out: &mut Vec<u8>, lists: usize) -> Result<(), AllocError>
 
 // Writes the line of a number.
 fn number_line(out: &mut Vec<u8>, lists: usize, key: &Bytes, text: &Bytes) -> Result<(), AllocError>
-    requires { lists ≤ 32 }
+    requires { lists ≤ max_depth }
     ensures { OnOk result (out.new.items ≡ out.old.items ++ number_line lists key.now text.now) }
 {
     indent(out, lists)?;
@@ -76,7 +76,7 @@ fn number_line(out: &mut Vec<u8>, lists: usize, key: &Bytes, text: &Bytes) -> Re
 
 // Writes the line of a string.
 fn string_line(out: &mut Vec<u8>, lists: usize, key: &Bytes, text: &Bytes) -> Result<(), AllocError>
-    requires { lists ≤ 32 }
+    requires { lists ≤ max_depth }
     ensures { OnOk result (out.new.items ≡ out.old.items ++ string_line lists key.now text.now) }
 {
     indent(out, lists)?;
@@ -89,7 +89,7 @@ fn string_line(out: &mut Vec<u8>, lists: usize, key: &Bytes, text: &Bytes) -> Re
 
 // Writes the first line of a list.
 fn open_line(out: &mut Vec<u8>, lists: usize, key: &Bytes) -> Result<(), AllocError>
-    requires { lists ≤ 32 }
+    requires { lists ≤ max_depth }
     ensures { OnOk result (out.new.items ≡ out.old.items ++ open_line lists key.now) }
 {
     indent(out, lists)?;
@@ -100,7 +100,7 @@ fn open_line(out: &mut Vec<u8>, lists: usize, key: &Bytes) -> Result<(), AllocEr
 
 // Writes the last line of a list.
 fn close_line(out: &mut Vec<u8>, lists: usize) -> Result<(), AllocError>
-    requires { lists ≤ 32 }
+    requires { lists ≤ max_depth }
     ensures { OnOk result (out.new.items ≡ out.old.items ++ close_line lists) }
 {
     indent(out, lists)?;
