@@ -1,15 +1,16 @@
 // Rotation systems of the skeletons, read off those of small blocks, worked out by hand.
 
-ghost use Rattle.std.specs.Prelude.{IfOk};
+ghost use Rattle.std.specs.Prelude.{ℕ, List, IfOk};
 ghost use Rattle.skeletons.specs.Families.{AreSkeletonSystems};
+ghost use Rattle.skel_compose.specs.Followers.{IsTable, IsTableOf};
 
 use blocks::is_one_block;
 use contract_embed::ContractEmbedder;
-use multigraph::Graph;
+use multigraph::{FlatLists, Graph};
 use pair_split::{PairSplitter, Splitter};
 use rotations::Rotation;
 use skel_compose::compose;
-use skel_decompose::decompose;
+use skel_decompose::{decompose, followers};
 use skel_embed::{BySkeletons, PlaneBlock, embed_by_skeletons};
 use spqr_tree::Tree;
 use std::alloc::{AllocError, Global};
@@ -86,6 +87,18 @@ fn members_of(alloc: Global, block: &PlaneBlock) -> Result<Vec<Rotation>, AllocE
     decompose(alloc, block.graph(), block.tree(), block.rotation())
 }
 
+// What follows each item in them.
+fn table_of(alloc: Global, block: &PlaneBlock) -> Result<FlatLists<u32>, AllocError>
+    ensures table { IfOk result (IsTable block.now.tree) }
+    ensures family { IfOk result
+        (λ table. (family : List (List (List ℕ))) × IsTableOf block.now.tree table family) }
+{
+    let graph = block.graph();
+    graph.keeps_limits();
+    let table = followers(alloc, graph, block.tree(), block.rotation())?;
+    Ok(table)
+}
+
 // Whether the rotation system has these orders.
 fn has_orders(r: &Rotation, rounds: &[&[u32]]) -> bool {
     if r.vertex_count() as usize != rounds.len() {
@@ -118,7 +131,8 @@ fn reads_members_off(rt: HostRuntime) -> Result<(), Fail> {
         let block = block_of(rt.alloc(), row)?;
         let members = members_of(rt.alloc(), &block)?;
         assert!(rt; are_members(&members, row));
-        let whole = compose(rt.alloc(), block.graph(), block.tree(), &members)?;
+        let table = table_of(rt.alloc(), &block)?;
+        let whole = compose(rt.alloc(), block.graph(), block.tree(), &table)?;
         assert!(rt; whole.same(block.rotation()));
     }
     Ok(())

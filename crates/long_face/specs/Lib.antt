@@ -7,7 +7,6 @@ pub mod Numbers
 pub mod Heaviest
 pub mod Ready
 pub mod Bonds
-pub mod Polygons
 pub mod Present
 pub mod Walk
 pub mod Moves

@@ -19,7 +19,7 @@
 //   Lengths    listed-dart, dart-listed: the faces that are listed are those of the darts
 //   Chosen     demands: faces chosen by one dart each fit together; link-two: the two darts of a link are on two faces
 //   Bonds      bond-next, bond-face, bond-sum: the faces of a bond by its choice; Possible: choices that are possible
-//   BondNumbers written-more, bond-known: numbers of these faces; PolygonSteps polygon-sum, leaves-first, leaves-second: steps in a polygon
+//   BondNumbers written-more, bond-known: numbers of these faces; PolygonSteps leaves-first, leaves-second: steps in a polygon
 //   Reached    reached: wanted faces are faces of some plane rotation system; Greatest table-bounds, wanted-reached
 //   FromTop    are-wanted: each node wants what its parent asks for; Best best-below: the heaviest face weighs enough
 //   FaceLengths has-found, has-none: whether a face has a length; Asked one-side; Walked, Steps: the walk from the top; RowsMade known-ready; Final

@@ -11,40 +11,12 @@ ghost use Rattle.pair_split.specs.declared.components.Kind.TheVariants.{S};
 ghost use Rattle.skeletons.specs.Items.{has_vertex, IsBlockTree};
 ghost use Rattle.skeletons.specs.Moves.{IsNodeOfKind};
 ghost use Rattle.skeletons.specs.Families.{skeleton_graph, system_at, AreSkeletonSystems};
-ghost use Rattle.skel_decompose.specs.Followers.{IsItemEnd, follower};
-ghost use Rattle.long_face.specs.Polygons.{AreEndSums};
+ghost use Rattle.skel_compose.specs.Followers.{IsItemEnd, follower};
+ghost use Rattle.skel_compose.specs.EndSums.{AreEndSums};
 
+use skel_compose::end_sums;
 use spqr_tree::Tree;
 use std::alloc::AllocError;
-
-// Sets the sums at the vertices of node k to 0.
-fn clear(tree: &Tree, k: u32, sums: &mut [u32])
-    requires node { k < length tree.now }
-    requires within { (v : ℕ) → has_vertex tree.now k v ≡ true → v < length sums.old }
-    ensures places { length sums.new ≡ length sums.old }
-    ensures sums { AreEndSums tree.now k 0 sums.new }
-{
-    let vertices = tree.vertices(k);
-    for v in vertices {
-        sums[*v as usize] = 0;
-    }
-}
-
-// Adds the place of each item of node k at both of its ends.
-fn add_items(tree: &Tree, k: u32, sums: &mut [u32])
-    requires block { (g : Multigraph) × IsBlockTree g tree.now × IsWithinLimits g }
-    requires node { k < length tree.now }
-    requires sums { AreEndSums tree.now k 0 sums.old }
-    ensures places { length sums.new ≡ length sums.old }
-    ensures sums { AreEndSums tree.now k (length (node_at tree.now k).items) sums.new }
-{
-    let items = tree.items(k);
-    for i in 0..items.len() as u32 {
-        let (a, b) = (items[i as usize].a, items[i as usize].b);
-        sums[a as usize] += i;
-        sums[b as usize] += i;
-    }
-}
 
 // The dart by which a face of the polygon k continues that arrives at v by item i.
 fn onward(tree: &Tree, k: u32, sums: &[u32], i: u32, v: u32) -> u32
@@ -100,7 +72,6 @@ pub(crate) fn polygon_steps(
     ensures steps { IfOk result (λ _. (family : List (List (List ℕ))) → AreSkeletonSystems tree.now family
         → AreFaceSteps (skeleton_graph tree.now k) (system_at family k) steps.new.items) }
 {
-    clear(tree, k, sums);
-    add_items(tree, k, sums);
+    end_sums(tree, k, sums);
     steps_of(tree, k, sums, steps)
 }

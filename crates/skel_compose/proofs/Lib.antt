@@ -3,3 +3,8 @@ pub mod Back
 pub mod Walk
 pub mod Rounds
 pub mod Found
+pub mod Tables
+pub mod RowLists
+pub mod EndSums
+pub mod PolygonRows
+pub mod BondRows

@@ -1,6 +1,6 @@
 -- Cyclic orders read from the successors, and put into lists.
-use Rattle.std.proofs.Common.{◌≡◌, ℕ, suc, ◌+◌, ◌-◌, ◌<◌, true, Result, Ok, Err, IfOk, List, [], ◌∷◌, ◌++◌, length, get_or, refl, sym, ap, ap₂, ◌∙◌, subst, arith, append_assoc, append-nil, IsPermutation}
-use Rattle.std.proofs.lemmas.List.{get_or-map, length-map, ext_get_or}
+use Rattle.std.proofs.Common.{◌≡◌, ℕ, suc, ◌+◌, ◌-◌, ◌<◌, true, Result, Ok, Err, IfOk, List, [], ◌∷◌, ◌++◌, length, get_or, map, refl, sym, ap, ap₂, ◌∙◌, subst, arith, append_assoc, append-nil, IsPermutation}
+use Rattle.std.proofs.lemmas.List.{get_or-map, length-map, map-append, ext_get_or}
 use Rattle.permutations.specs.Cyclic.{first_or, successor, turned}
 use Rattle.permutations.specs.Members.{is_member, is_distinct}
 use Rattle.permutations.specs.Ring.{images}
@@ -9,7 +9,7 @@ use Rattle.permutations.proofs.Chains.{successor-next}
 use Rattle.permutations.proofs.Turned.{turned-own}
 use Rattle.permutations.proofs.Places.{first-at}
 use Rattle.multigraph.specs.Graph.{Multigraph, numbers_below, incident_edges}
-use Rattle.multigraph.proofs.Below.{get_or-numbers_below, length-numbers_below}
+use Rattle.multigraph.proofs.Below.{get_or-numbers_below, length-numbers_below, numbers_below-more}
 use Rattle.graph_theory.specs.Block.{IsOneBlock}
 use Rattle.rotations.proofs.Membership.{incident-member, incident-distinct}
 use Rattle.rotations.proofs.Cursor.{list_at-found}
@@ -47,6 +47,12 @@ images-end f l all n i e h q = sym (append-nil l) ∙ sym (ap (λ k. l ++ images
   where
     none : n - i ≡ 0
     none = omega (arith, h)
+
+-- the entries with that of one vertex more
+pub orders-more : (r : List (List ℕ)) (v : ℕ) (lists new : List (ℕ × List ℕ)) (edges : List ℕ) → lists ≡ orders_below r v → edges ≡ order_at r v → new ≡ lists ++ (v, edges) ∷ [] → new ≡ orders_below r (v + 1)
+orders-more r v lists new edges p q e =
+    e ∙ ap₂ (λ (u : List (ℕ × List ℕ)) (w : List ℕ). u ++ (v, w) ∷ []) p q
+    ∙ sym (ap (map (λ (w : ℕ). (w, order_at r w))) (numbers_below-more v) ∙ map-append (λ (w : ℕ). (w, order_at r w)) (numbers_below v) (v ∷ []))
 
 -- entry v is for v
 pub entry-at : (r : List (List ℕ)) (n v : ℕ) → v < n → entry (orders_below r n) v ≡ (v, order_at r v)

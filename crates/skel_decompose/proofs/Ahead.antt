@@ -20,7 +20,8 @@ use Rattle.skeletons.proofs.NodeItems.{comp-in, stands-of, keys-once, group-item
 use Rattle.skeletons.proofs.Places.{round-item, item-round, contiguous-follows}
 use Rattle.skeletons.proofs.Towards.{Toward, toward, far-item, group-either}
 use Rattle.skel_compose.proofs.Walk.{LeadsOn, IsNear, order-edge_at, starts, goes-on, near-next, near-start}
-use Rattle.skel_decompose.specs.Followers.{IsInRuns, IsFamily, IsItemEnd, follower, HasFollower, Keeps, IsLastOf, HasLast, IsOpen, IsAhead}
+use Rattle.skel_compose.specs.Followers.{IsItemEnd, follower, HasFollower}
+use Rattle.skel_decompose.specs.Followers.{IsInRuns, IsFamily, Keeps, IsLastOf, HasLast, IsOpen, IsAhead}
 
 no-both : (e h : ℕ) → Real e ≡ Link h → ⊥
 no-both e h q = absurd (cc)

@@ -17,7 +17,8 @@ use Rattle.skeletons.specs.Items.{has_vertex}
 use Rattle.skeletons.proofs.NodeItems.{nth_item, node-in, stands-of, item-of, item-edge, item-vertex, group-is, outside-edge}
 use Rattle.skel_compose.specs.Homes.{IsHome}
 use Rattle.skel_compose.proofs.Walk.{order-edge_at}
-use Rattle.skel_decompose.specs.Followers.{IsInRuns, IsItemEnd, follower, row_at, item_place, HasFollower, Keeps, HasLast, HasLasts}
+use Rattle.skel_compose.specs.Followers.{IsItemEnd, follower, row_at, item_place, HasFollower}
+use Rattle.skel_decompose.specs.Followers.{IsInRuns, Keeps, HasLast, HasLasts}
 
 module _ (g : Multigraph) (nodes : List Node) (r : List (List ℕ)) (d : IsInRuns g nodes r) (family : List (List (List ℕ))) (table : List (List ℕ)) where
   abbrev t : IsTutte g nodes

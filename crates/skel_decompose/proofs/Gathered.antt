@@ -21,7 +21,8 @@ use Rattle.skeletons.proofs.Places.{skel-end, round-item}
 use Rattle.skeleton_runs.proofs.SkeletonGraph.{graph-edges}
 use Rattle.skel_compose.specs.Orders.{orders_below}
 use Rattle.skel_compose.proofs.Rounds.{round-start, round-member, entries-arranged, entries-same}
-use Rattle.skel_decompose.specs.Followers.{IsItemEnd, row_at, item_place, HasFollowers, members_below}
+use Rattle.skel_compose.specs.Followers.{IsItemEnd, row_at, item_place, HasFollowers}
+use Rattle.skel_decompose.specs.Followers.{members_below}
 
 module _ (g : Multigraph) (nodes : List Node) (b : IsBlockTree g nodes) (k p : ℕ) (dk : k < length nodes) (lp : p < length (node_at nodes k).vertices) where
   -- the vertex at the place

@@ -2,7 +2,7 @@
 pub mod Searched
 mod Nearby
 mod Written
-mod Ahead
+pub mod Ahead
 mod Complete
 mod Gathered
 pub mod Stepped

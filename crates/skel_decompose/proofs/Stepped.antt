@@ -16,7 +16,7 @@ use Rattle.skeletons.proofs.NodeItems.{item-vertex}
 use Rattle.skeletons.proofs.Places.{round-item, item-round}
 use Rattle.skeleton_runs.proofs.NodeFits.{item-first}
 use Rattle.skeleton_runs.proofs.SkeletonGraph.{place-once, graph-ends}
-use Rattle.skel_decompose.specs.Followers.{IsItemEnd, item_place, row_at, follower, HasFollowers}
+use Rattle.skel_compose.specs.Followers.{IsItemEnd, item_place, row_at, follower, HasFollowers}
 
 -- what is read from the table is what follows
 pub next-is : (nodes : List Node) (table : List (List ℕ)) (k i v : ℕ) → IsItemEnd nodes k i v → (place x : ℕ) → place ≡ item_place nodes k i v → x ≡ slice_index_or (row_at table k) place 0

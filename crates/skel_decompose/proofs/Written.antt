@@ -4,7 +4,9 @@ use Rattle.std.proofs.lemmas.Bool.{cases_eq, cases_Bool, or_cases, both_ways}
 use Rattle.std.proofs.lemmas.List.{get_or-set_same, get_or-set_other, length-set}
 use Rattle.pair_split.specs.Tutte.{Node, node_at, node_item}
 use Rattle.skeletons.specs.Items.{ends_item}
-use Rattle.skel_decompose.specs.Followers.{IsItemEnd, item_place, row_at, follower, HasFollower, IsTable, Keeps}
+use Rattle.skel_compose.specs.Followers.{IsItemEnd, item_place, row_at, follower, HasFollower, IsTable}
+use Rattle.skel_compose.proofs.Tables.{place-below}
+use Rattle.skel_decompose.specs.Followers.{Keeps}
 
 -- two ends of an item that have one place are one
 place-once : (nodes : List Node) (k i h v w : ℕ) → ends_item v (node_item nodes k i) ≡ true → ends_item w (node_item nodes k h) ≡ true → item_place nodes k i v ≡ item_place nodes k h w → (i ≡ h) × (v ≡ w)
@@ -27,13 +29,6 @@ place-once nodes k i h v w a b e = elim (cases_Bool ((node_item nodes k i).a == 
       where
         second : (x y : Bool) → (x || y) ≡ true → x ≡ false → y ≡ true
         second x y c q = elim (or_cases x y c) [ inl p ↦ absurd (both_ways x q p) | inr p ↦ p ]
-
--- an item's places are below twice their number
-pub place-below : (nodes : List Node) (k i v n : ℕ) → i < n → item_place nodes k i v < 2 * n
-place-below nodes k i v n l = elim (cases_Bool ((node_item nodes k i).a == v)) [
-  | inl q ↦ let e : item_place nodes k i v ≡ 2 * i = ap (λ (z : Bool). if z then 2 * i else 2 * i + 1) q in omega (arith, e, l)
-  | inr q ↦ let e : item_place nodes k i v ≡ 2 * i + 1 = ap (λ (z : Bool). if z then 2 * i else 2 * i + 1) q in omega (arith, e, l)
-]
 
 module _ (nodes : List Node) (table : List (List ℕ)) (t : IsTable nodes table) (k i v x : ℕ) (m : IsItemEnd nodes k i v) where
   abbrev row : List ℕ

@@ -1,16 +1,16 @@
--- What follows each item of each node around its ends, as a table: a list for each node, with two places for each of its items.
-use Rattle.std.specs.Prelude.{◌≡◌, ℕ, ◌+◌, ◌*◌, ◌<◌, ◌==◌, ◌⊎◌, if◌then◌else◌, true, List, [], length, map, slice_index_or}
+-- How far a table of what follows each item has what a rotation system of the block gives.
+use Rattle.std.specs.Prelude.{◌≡◌, ℕ, ◌<◌, ◌⊎◌, true, List, length, map}
 use Rattle.permutations.specs.Cyclic.{successor}
-use Rattle.permutations.specs.Members.{place_of}
 use Rattle.multigraph.specs.Graph.{Multigraph, is_end, numbers_below, IsWithinLimits}
 use Rattle.rotations.specs.Rotation.{order_at, IsRotationSystem}
 use Rattle.pair_split.specs.Split.{is_beyond}
 use Rattle.pair_split.specs.Tutte.{Node, components, node_at, node_item, group}
 use Rattle.pair_split.specs.declared.components.What.TheVariants.{Real, Link}
-use Rattle.skeletons.specs.Items.{ends_item, IsBlockTree}
+use Rattle.skeletons.specs.Items.{IsBlockTree}
 use Rattle.skeletons.specs.Round.{IsContiguous}
 use Rattle.skeletons.specs.Families.{system_at, AreSkeletonSystems, FollowsFamily}
 use Rattle.skel_compose.specs.Homes.{IsHome}
+use Rattle.skel_compose.specs.Followers.{IsItemEnd, HasFollower}
 
 -- r is a rotation system of the block with this tree, and the groups of each node are in runs
 pub record IsInRuns (g : Multigraph) (nodes : List Node) (r : List (List ℕ)) : Type 0 where
@@ -23,37 +23,6 @@ pub record IsInRuns (g : Multigraph) (nodes : List Node) (r : List (List ℕ)) :
 pub record IsFamily (nodes : List Node) (r : List (List ℕ)) (family : List (List (List ℕ))) : Type 0 where
   pub systems : AreSkeletonSystems nodes family
   pub follows : FollowsFamily nodes family r
-
--- v is an end of item i of node k
-pub record IsItemEnd (nodes : List Node) (k i v : ℕ) : Type 0 where
-  pub is_node : k < length nodes
-  pub is_item : i < length (node_at nodes k).items
-  pub end : ends_item v (node_item nodes k i) ≡ true
-
--- the place of item i of node k around v, one of its ends
-abbrev pub item_place : List Node → ℕ → ℕ → ℕ → ℕ
-item_place nodes k i v = (if (node_item nodes k i).a == v then 2 * i else 2 * i + 1)
-
--- the list of node k
-abbrev pub row_at : List (List ℕ) → ℕ → List ℕ
-row_at table k = slice_index_or table k []
-
--- the item that follows item i of node k around v in the family
-abbrev pub follower : List Node → List (List (List ℕ)) → ℕ → ℕ → ℕ → ℕ
-follower nodes family k i v = successor (order_at (system_at family k) (place_of (node_at nodes k).vertices v)) i
-
--- the table has it
-abbrev pub HasFollower : List Node → List (List (List ℕ)) → List (List ℕ) → ℕ → ℕ → ℕ → Type 0
-HasFollower nodes family table k i v = slice_index_or (row_at table k) (item_place nodes k i v) 0 ≡ follower nodes family k i v
-
--- for all items
-abbrev pub HasFollowers : List Node → List (List (List ℕ)) → List (List ℕ) → Type 0
-HasFollowers nodes family table = (k i v : ℕ) → IsItemEnd nodes k i v → HasFollower nodes family table k i v
-
--- the table has all places
-pub record IsTable (nodes : List Node) (table : List (List ℕ)) : Type 0 where
-  pub each : length table ≡ length nodes
-  pub places : (k : ℕ) → k < length nodes → length (row_at table k) ≡ 2 * length (node_at nodes k).items
 
 -- what the old table has of the family, the new one has too
 abbrev pub Keeps : List Node → List (List (List ℕ)) → List (List ℕ) → List (List ℕ) → Type 0

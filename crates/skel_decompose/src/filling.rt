@@ -2,7 +2,8 @@
 
 ghost use Rattle.std.specs.Prelude.{◌+◌, ◌<◌, List, ℕ, length, IfOk};
 ghost use Rattle.skel_compose.specs.Homes.{HasHomes};
-ghost use Rattle.skel_decompose.specs.Followers.{IsInRuns, IsFamily, IsTable, HasLasts, HasFollowers};
+ghost use Rattle.skel_compose.specs.Followers.{IsTable, HasFollowers};
+ghost use Rattle.skel_decompose.specs.Followers.{IsInRuns, IsFamily, HasLasts};
 ghost use Rattle.skel_decompose.specs.Neighbors.{AreNeighbors};
 
 use crate::lists::FlatLists;

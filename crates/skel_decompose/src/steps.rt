@@ -8,10 +8,10 @@ ghost use Rattle.faces.specs.Steps.{AreFaceSteps};
 ghost use Rattle.pair_split.specs.Tutte.{node_at};
 ghost use Rattle.skeletons.specs.Items.{IsBlockTree};
 ghost use Rattle.skeletons.specs.Families.{skeleton_graph, system_at, AreSkeletonSystems};
-ghost use Rattle.skel_decompose.specs.Followers.{IsItemEnd, follower, IsTable, HasFollowers};
+ghost use Rattle.skel_compose.specs.Followers.{IsItemEnd, follower, IsTable, HasFollowers};
 
 use crate::lists::FlatLists;
-use crate::table::item_place;
+use skel_compose::item_place;
 use spqr_tree::Tree;
 use std::alloc::AllocError;
 

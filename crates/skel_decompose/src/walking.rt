@@ -3,14 +3,15 @@
 ghost use Rattle.std.specs.Prelude.{◌≡◌, ◌<◌, true, List, ℕ, length};
 ghost use Rattle.multigraph.specs.Graph.{Multigraph, edge_count, is_end};
 ghost use Rattle.skel_compose.specs.Homes.{IsHome, HasHomes};
-ghost use Rattle.skel_decompose.specs.Followers.{IsInRuns, IsFamily, IsTable, Keeps, HasLast};
+ghost use Rattle.skel_compose.specs.Followers.{IsTable};
+ghost use Rattle.skel_decompose.specs.Followers.{IsInRuns, IsFamily, Keeps, HasLast};
 ghost use Rattle.skel_decompose.specs.Neighbors.{AreNeighbors};
 
 use crate::lists::FlatLists;
 use crate::searching::{item_back, item_of};
-use crate::table::item_place;
 use pair_split::What;
 use rotations::Rotation;
+use skel_compose::item_place;
 use spqr_tree::Tree;
 
 // Writes at the nodes on the way that the item of the next edge around v follows that of e, `home` is the node and the item that e is.

@@ -1,5 +1,5 @@
 -- The least possible choice of each kind of node, and the first plane rotation system of a block.
-use Rattle.std.proofs.Common.{◌≡◌, ◌≢◌, ℕ, ◌+◌, ◌<◌, ◌≤◌, ◌⊎◌, inl, inr, Bool, true, false, not, cond, List, [], ◌∷◌, ◌++◌, append_assoc, length, map, reverse, get_or, slice_index_or, length-append, refl, sym, ap, ◌∙◌, subst, arith, suc}
+use Rattle.std.proofs.Common.{◌≡◌, ◌≢◌, ℕ, ◌+◌, ◌<◌, ◌≤◌, ◌⊎◌, inl, inr, Bool, true, false, cond, List, [], ◌∷◌, ◌++◌, append_assoc, length, map, reverse, get_or, slice_index_or, length-append, refl, sym, ap, ◌∙◌, subst, arith, suc}
 use Rattle.std.proofs.lemmas.Bool.{cases_eq, true≢false, both_ways, false_from_ne_true, eq-eqb}
 use Rattle.std.proofs.lemmas.List.{get_or-map, length-map}
 use Rattle.std.proofs.Math.ListN.{get_or-append}
@@ -26,8 +26,6 @@ use Rattle.planarity.proofs.TwoSystems.{two-systems}
 use Rattle.pair_split.specs.Skeleton.{HasPoles}
 use Rattle.pair_split.specs.Split.{skeleton}
 use Rattle.pair_split.specs.Tutte.{Node, components, node_at, node_item, is_before, group}
-use denote.Enum.Bare.{sameb}
-use Rattle.pair_split.specs.contracts.components.Kind as Kind-is
 use Rattle.pair_split.specs.declared.components.Kind.{Kind}
 use Rattle.pair_split.specs.declared.components.Kind.TheVariants.{S, P, R, B}
 use Rattle.skeletons.specs.Items.{node_keys, has_vertex, least_vertex, IsBlockTree}
@@ -227,13 +225,3 @@ members-more nodes k family new s e before h = record {
     | inr n ↦ let m : j < k = omega (arith, l, n) in subst (IsFirstMember nodes j) (sym (get_or-append family (s ∷ []) [] j (omega (arith, m, before.each)))) (before.members j m)
   ]);
 }
-
--- what the comparison of kinds says
-pub rigid-not : (kind other : Kind) → other ≡ kind → not (sameb Kind-is.the_type other R) ≡ true → kind ≢ R
-rigid-not kind other q h e = true≢false (sym h ∙ ap (λ (z : Kind). not (sameb Kind-is.the_type z R)) (q ∙ e))
-
-pub rigid-is : (kind other : Kind) → other ≡ kind → not (sameb Kind-is.the_type other R) ≡ false → kind ≡ R
-rigid-is S other q h = absurd (true≢false (sym (ap (λ (z : Kind). not (sameb Kind-is.the_type z R)) q) ∙ h))
-rigid-is P other q h = absurd (true≢false (sym (ap (λ (z : Kind). not (sameb Kind-is.the_type z R)) q) ∙ h))
-rigid-is B other q h = absurd (true≢false (sym (ap (λ (z : Kind). not (sameb Kind-is.the_type z R)) q) ∙ h))
-rigid-is R other q h = refl

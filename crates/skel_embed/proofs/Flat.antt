@@ -79,6 +79,16 @@ flat-more lists i keys ends x h e f = record {
     from-0 : length (concat (take i lists) ++ x) ≡ 0 + length (concat (take i lists) ++ x)
     from-0 = omega arith
 
+-- a list more at the end
+pub flat-push : (lists : List (List ℕ)) (keys ends x : List ℕ) → AreFlat lists keys ends → AreFlat (lists ++ x ∷ []) (keys ++ x) (ends ++ length (keys ++ x) ∷ [])
+flat-push lists keys ends x f = record {
+  keys_are = ap (λ (z : List ℕ). z ++ x) f.keys_are ∙ sym (concat-append lists (x ∷ []) ∙ ap (λ (z : List ℕ). concat lists ++ z) (append-nil x));
+  ends_are = ap (λ (z : List ℕ). z ++ length (keys ++ x) ∷ []) f.ends_are ∙ ap (λ (z : List ℕ). ends_from 0 lists ++ length (z ++ x) ∷ []) f.keys_are ∙ ap (λ z. ends_from 0 lists ++ z ∷ []) from-0 ∙ sym (ends-more lists x 0);
+}
+  where
+    from-0 : length (concat lists ++ x) ≡ 0 + length (concat lists ++ x)
+    from-0 = omega arith
+
 module _ (lists : List (List ℕ)) (keys ends : List ℕ) (f : AreFlat lists keys ends) where
   pub ends-count : length ends ≡ length lists
   ends-count = ap length f.ends_are ∙ ends-length lists 0

@@ -11,6 +11,8 @@ pub mod KeptLists
 mod Flat
 pub mod BondMoves
 mod Selected
+mod FirstRows
+mod RowTables
 mod Drafted
 pub mod States
 pub mod RunKeys

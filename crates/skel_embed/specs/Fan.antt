@@ -1,4 +1,5 @@
--- Cyclic orders that go through the edges in order at vertex 0, and in reverse order at the other vertices.
+-- The rotation system that goes through the edges in order at vertex 0, and in reverse order at the other vertices; and rotation systems that
+-- turn right.
 use Rattle.std.specs.Prelude.{◌≡◌, ℕ, zero, suc, ◌<◌, ◌≤◌, List, map, reverse}
 use Rattle.permutations.specs.Cyclic.{first_or, from_least, successor, predecessor}
 use Rattle.multigraph.specs.Graph.{Multigraph, numbers_below, incident_edges}
@@ -6,14 +7,14 @@ use Rattle.planarity.specs.declared.embedder.Embedded.{Embedded}
 use Rattle.planarity.specs.declared.embedder.Embedded.TheVariants.{Plane, Not}
 use Rattle.rotations.specs.Rotation.{order_at, IsRotationSystem}
 
--- the edges at v, in order at vertex 0 and backwards at others
-abbrev pub fan_list : Multigraph → ℕ → List ℕ
-fan_list g zero = incident_edges g zero
-fan_list g (suc v) = reverse (incident_edges g (suc v))
+-- the edges at v, in order at vertex 0, and in reverse order at others
+abbrev pub fan_order : Multigraph → ℕ → List ℕ
+fan_order g zero = incident_edges g zero
+fan_order g (suc v) = from_least (reverse (incident_edges g (suc v)))
 
 -- those of all vertices
-abbrev pub fan_lists : Multigraph → List (List ℕ)
-fan_lists g = map (fan_list g) (numbers_below g.vertex_count)
+abbrev pub fan_system : Multigraph → List (List ℕ)
+fan_system g = map (fan_order g) (numbers_below g.vertex_count)
 
 -- a rotation system with these cyclic orders
 pub record IsFan (g : Multigraph) (r : List (List ℕ)) : Type 0 where

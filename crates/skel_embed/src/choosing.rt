@@ -1,20 +1,26 @@
 // The choices of another plane rotation system of a block.
 
-ghost use Rattle.std.specs.Prelude.{◌≡◌, ◌≢◌, ◌<◌, ◌↔◌, ◌⊎◌, ℕ, List, true, length, IfOk, IsTrue, MatchOption};
+ghost use Rattle.std.specs.Prelude.{◌≡◌, ◌≢◌, ◌<◌, ◌↔◌, ◌⊎◌, ◌++◌, ℕ, List, true, length, IfOk, IsTrue, MatchOption};
 ghost use Rattle.std.specs.List.{concat};
 ghost use Rattle.permutations.specs.Cyclic.{turned};
 ghost use Rattle.permutations.specs.Members.{is_member};
+ghost use Rattle.multigraph.specs.Graph.{Multigraph};
+ghost use Rattle.rotations.specs.Rotation.{IsRotationSystem};
 ghost use Rattle.pair_split.specs.Tutte.{node_at};
 ghost use Rattle.pair_split.specs.declared.components.Kind.TheVariants.{P, R};
 ghost use Rattle.skeletons.specs.Items.{has_vertex, IsBlockTree};
 ghost use Rattle.faces.specs.Euler.{IsPlaneSystem};
 ghost use Rattle.skeletons.specs.Choices.{choice};
+ghost use Rattle.skeletons.specs.Families.{skeleton_graph, AreSkeletonSystems};
 ghost use Rattle.skel_embed.specs.Block.{AreChoices, choices_by};
+ghost use Rattle.skel_embed.specs.First.{choice_in};
+ghost use Rattle.skel_embed.specs.Flat.{AreFlat};
+ghost use Rattle.skel_embed.specs.Outcomes.{choices_in};
 ghost use Rattle.skel_embed.specs.Taken.{runs_met, IsFirstOther, NoneOther};
 
-use crate::blocks_in_plane::choices_in;
 use crate::choices::Choices;
 use crate::kept::place_of;
+use crate::members::append_round;
 use multigraph::Graph;
 use pair_split::Kind;
 use rotations::Rotation;
@@ -118,6 +124,44 @@ fn choices_by_walks(
         keys.extend_from_slice(&list)?;
     }
     Ok(keys)
+}
+
+// Appends the choice that a rotation system of its skeleton gives node k.
+fn append_choice(
+    keys: &mut Vec<u32>,
+    tree: &Tree,
+    k: u32,
+    member: &Rotation,
+) -> Result<(), AllocError>
+    requires node { k < length tree.now }
+    requires block { (g : Multigraph) × IsBlockTree g tree.now }
+    requires system { IsRotationSystem (skeleton_graph tree.now k) member.now }
+    ensures { IfOk result (λ _. keys.new.items ≡ keys.old.items ++ choice_in tree.now k member.now) }
+{
+    match tree.kind(k) {
+        Kind::P | Kind::R => append_round(keys, tree.items(k), member),
+        Kind::S | Kind::B => Ok(()),
+    }
+}
+
+// The keys of the choices that the members give the nodes, and where each choice ends.
+fn choices_in(
+    alloc: Global,
+    tree: &Tree,
+    members: &[Rotation],
+) -> Result<(Vec<u32>, Vec<usize>), AllocError>
+    requires block { (g : Multigraph) × IsBlockTree g tree.now }
+    requires systems { AreSkeletonSystems tree.now members.now }
+    ensures { IfOk result (λ kept. AreFlat (choices_in tree.now members.now)
+        kept.0.items kept.1.items) }
+{
+    let mut keys = Vec::new(alloc);
+    let mut ends = Vec::with_capacity(alloc, tree.node_count() as usize)?;
+    for k in 0..tree.node_count() {
+        append_choice(&mut keys, tree, k, &members[k as usize])?;
+        ends.push(keys.len())?;
+    }
+    Ok((keys, ends))
 }
 
 // The keys of the choices of all nodes, read off the rotation systems of all skeletons.

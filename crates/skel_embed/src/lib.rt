@@ -4,8 +4,9 @@
 // selection of possible choices is that of one plane rotation system (Di Battista and Tamassia 1996). So the first of them, in the order by the first
 // node at which the choices differ, has the least choice at each node: a bond has its items in order at its lesser pole, and a
 // triconnected skeleton has that one of its two plane rotation systems, mirror images of each other (Whitney 1932), whose
-// second item at its least vertex comes before the last. `embed_by_skeletons` composes these, or returns a skeleton and
-// a subdivision of K5 or K3,3 in it. `plane_block` carries that one into the block.
+// second item at its least vertex comes before the last. `embed_by_skeletons` composes these from what follows each item in them, which
+// for polygons and bonds is known without a rotation system, or returns a skeleton and a subdivision of K5 or K3,3 in it. `plane_block`
+// carries that one into the block.
 //
 // A `PlaneBlock` is a block with its tree, a plane rotation system, the present choice of each node, and locks on nodes; that
 // these belong together is its invariant. Calls fail only if memory runs out, except that `take` may reject lists.
@@ -28,7 +29,10 @@
 //   Flat           flat-view, piece-of, lent-put: choices kept as one list
 //   KeptKeys       first-kept, other-state: the kept choices of the first rotation system, and of another one
 //   RunKeys        choice-from, choice-long: a choice read off a cyclic order, and its length
-//   Selected       rigid-mirrored, bond-rebuilt: members with other choices; all-chosen: the one system that has them
+//   Fans           fan-is: the rotation system with the edges in order at vertex 0, and in reverse order at the others
+//   FirstRows      first-polygon, first-bond, first-rigid: what follows each item in a first member, and its choice
+//   RowTables      have-more, chosen-more, table-of: the lists of all nodes are a table
+//   Selected       rigid-mirrored, bond-changed: members with other choices; all-chosen: the one system that has them
 //   States         state-moved, state-mirrored: the invariant after a move
 #![tactic(auto)]
 

@@ -1,4 +1,4 @@
-// A plane rotation system of a block with other choices, composed of the rotation systems of its skeletons.
+// A plane rotation system of a block with other choices, composed of what follows each item in the rotation systems of its skeletons.
 
 ghost use Rattle.std.specs.Prelude.{◌≡◌, ◌≢◌, ◌<◌, ◌≤◌, ℕ, List, true, false, length, map, IfOk};
 ghost use Rattle.permutations.specs.Members.{is_member, place_of};
@@ -7,16 +7,19 @@ ghost use Rattle.multigraph.specs.Part.{Rises};
 ghost use Rattle.pair_split.specs.declared.components.Kind.TheVariants.{P};
 ghost use Rattle.skeletons.specs.Items.{item_key, IsBlockTree};
 ghost use Rattle.skeletons.specs.Moves.{IsNodeOfKind};
+ghost use Rattle.skeletons.specs.Families.{system_at};
+ghost use Rattle.rotations.specs.Runs.{mirror_image};
 ghost use Rattle.faces.specs.Euler.{IsPlaneSystem};
+ghost use Rattle.skel_compose.specs.Followers.{IsTable, IsTableOf, IsRow};
 ghost use Rattle.skel_embed.specs.Block.{choices_by};
-ghost use Rattle.skel_embed.specs.Selected.{HasChoice, ArePossible, AreChosen};
+ghost use Rattle.skel_embed.specs.Selected.{HasChoice, HasChoiceIn, ArePossible, GiveChoices, HaveChoices};
 
 use crate::choices::Choices;
-use multigraph::Graph;
+use multigraph::{FlatLists, Graph};
 use pair_split::{Item, Kind};
-use rotations::{Lists, Rotation};
-use skel_compose::compose;
-use skel_decompose::decompose;
+use rotations::Rotation;
+use skel_compose::{bond_row, compose, next_edges};
+use skel_decompose::{followers, member_of};
 use spqr_tree::Tree;
 use std::alloc::{AllocError, Global};
 
@@ -48,22 +51,43 @@ fn items_with(alloc: Global, items: &[Item], keys: &[u32]) -> Result<Vec<u32>, A
     Ok(numbers)
 }
 
-// The rotation system of the skeleton of a bond that has the items in the order of these keys at the lesser pole, and in the reverse
-// order at the other.
-fn bond_member(alloc: Global, tree: &Tree, k: u32, keys: &[u32]) -> Result<Rotation, AllocError>
+// Makes `row` the list of a bond in which the items with these keys follow each other at the lesser pole.
+fn bond_with(
+    alloc: Global,
+    tree: &Tree,
+    k: u32,
+    keys: &[u32],
+    row: &mut Vec<u32>,
+) -> Result<(), AllocError>
     requires node { IsNodeOfKind tree.now k P }
     requires block { (g : Multigraph) × IsBlockTree g tree.now × IsWithinLimits g }
     requires possible { (s : List (List ℕ)) × HasChoice tree.now k keys.now s }
-    ensures { IfOk result (HasChoice tree.now k keys.now) }
+    ensures { (s : List (List ℕ)) → HasChoice tree.now k keys.now s
+        → IfOk result (λ _. IsRow tree.now k s row.new.items) }
+{
+    let items = items_with(alloc, tree.items(k), keys)?;
+    bond_row(&items, row)
+}
+
+// Makes `row` the list of the mirror image of a member, of which the table has the list.
+fn mirrored(
+    alloc: Global,
+    tree: &Tree,
+    table: &FlatLists<u32>,
+    k: u32,
+    row: &mut Vec<u32>,
+) -> Result<(), AllocError>
+    requires node { k < length tree.now }
+    requires block { (g : Multigraph) × IsBlockTree g tree.now × IsWithinLimits g }
+    requires table { IsTable tree.now table.now }
+    requires family { (family : List (List (List ℕ))) × IsTableOf tree.now table.now family }
+    ensures { (family : List (List (List ℕ))) → IsTableOf tree.now table.now family
+        → IfOk result (λ _. IsRow tree.now k (mirror_image (system_at family k)) row.new.items) }
 {
     let graph = tree.skeleton(alloc, k)?;
-    let mut numbers = items_with(alloc, tree.items(k), keys)?;
-    let mut lists = Lists::new(alloc);
-    lists.push(0, &numbers)?;
-    numbers.reverse();
-    lists.push(1, &numbers)?;
-    let member = Rotation::of_arranged(alloc, &graph, &lists)?;
-    Ok(member)
+    let mut member = member_of(alloc, tree, table, k)?;
+    member.mirror();
+    next_edges(&graph, &member, row)
 }
 
 // Whether two choices are the same.
@@ -74,59 +98,69 @@ fn are_same(a: &[u32], b: &[u32]) -> bool
     a == b
 }
 
-// Gives node k another choice, or the same.
-fn change_member(
+// Makes `row` the list of a member that gives node k the new choice, where the one in the table gives it the old.
+fn changed_row(
     alloc: Global,
     tree: &Tree,
+    table: &FlatLists<u32>,
     k: u32,
-    member: &mut Rotation,
     old: &[u32],
     new: &[u32],
+    row: &mut Vec<u32>,
 ) -> Result<(), AllocError>
     requires node { k < length tree.now }
     requires block { (g : Multigraph) × IsBlockTree g tree.now × IsWithinLimits g }
-    requires old { HasChoice tree.now k old.now member.old }
+    requires table { IsTable tree.now table.now }
+    requires family { (family : List (List (List ℕ))) × IsTableOf tree.now table.now family
+        × HasChoice tree.now k old.now (system_at family k) }
     requires possible { (s : List (List ℕ)) × HasChoice tree.now k new.now s }
-    ensures { IfOk result (λ _. HasChoice tree.now k new.now member.new) }
+    ensures { IfOk result (λ _. HasChoiceIn tree.now k new.now row.new.items) }
 {
     if are_same(old, new) {
+        row.clear();
+        row.extend_from_slice(table.at(k as usize))?;
         return Ok(());
     }
     match tree.kind(k) {
-        Kind::P => *member = bond_member(alloc, tree, k, new)?,
-        Kind::R => member.mirror(),
-        Kind::S | Kind::B => {}
+        Kind::P => bond_with(alloc, tree, k, new, row),
+        Kind::R => mirrored(alloc, tree, table, k, row),
+        Kind::S | Kind::B => unreachable!(),
     }
-    Ok(())
 }
 
-// Gives all nodes other choices.
-fn change_members(
+// The lists of members that give all nodes the new choices, from the table of what follows each item in those that give them the old ones.
+fn changed_table(
     alloc: Global,
     tree: &Tree,
-    members: &mut Vec<Rotation>,
+    table: &FlatLists<u32>,
     old: &Choices<'_>,
     new: &Choices<'_>,
-) -> Result<(), AllocError>
+) -> Result<FlatLists<u32>, AllocError>
     requires block { (g : Multigraph) × IsBlockTree g tree.now × IsWithinLimits g }
     requires old { length old.now ≡ length tree.now }
     requires new { length new.now ≡ length tree.now }
-    requires members { AreChosen tree.now old.now new.now 0 members.old.items }
+    requires table { IsTable tree.now table.now }
+    requires family { (family : List (List (List ℕ))) × IsTableOf tree.now table.now family
+        × GiveChoices tree.now old.now (length tree.now) family }
     requires possible { ArePossible tree.now new.now }
-    ensures { IfOk result (λ _. AreChosen tree.now old.now new.now (length tree.now) members.new.items) }
+    ensures { IfOk result (HaveChoices tree.now new.now (length tree.now)) }
 {
+    let mut changed = FlatLists::with_capacity(alloc, tree.node_count() as usize)?;
+    let mut row = Vec::new(alloc);
     for k in 0..tree.node_count() {
         let place = k as usize;
-        change_member(
+        changed_row(
             alloc,
             tree,
+            table,
             k,
-            &mut members[place],
             old.at(place),
             new.at(place),
+            &mut row,
         )?;
+        changed.push(&row)?;
     }
-    Ok(())
+    Ok(changed)
 }
 
 // The plane rotation system with the new choices, where `r` is the one with the old ones. Takes time n log n.
@@ -146,8 +180,8 @@ pub(crate) fn with_choices(
         → IfOk result (λ s. s ≡ q) }
 {
     g.keeps_limits();
-    let mut members = decompose(alloc, g, t, r)?;
-    change_members(alloc, t, &mut members, old, new)?;
-    let s = compose(alloc, g, t, &members)?;
+    let table = followers(alloc, g, t, r)?;
+    let changed = changed_table(alloc, t, &table, old, new)?;
+    let s = compose(alloc, g, t, &changed)?;
     Ok(s)
 }

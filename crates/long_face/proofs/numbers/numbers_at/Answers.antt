@@ -12,7 +12,7 @@ use Rattle.skeletons.specs.Moves.{IsNodeOfKind}
 use Rattle.skeletons.proofs.Leading.{bond-choice}
 use Rattle.skeleton_runs.proofs.Contiguous.{plane-contiguous}
 use Rattle.skeleton_runs.proofs.SkeletonGraph.{skeleton-graph, skeleton-limits}
-use Rattle.skel_decompose.specs.Followers.{HasFollowers, IsTable}
+use Rattle.skel_compose.specs.Followers.{HasFollowers, IsTable}
 use Rattle.long_face.specs.Bonds.{AreBondNumbers}
 use Rattle.long_face.proofs.BondNumbers.{bond-known}
 use Rattle.long_face.proofs.Greatest.{present-family}

@@ -8,7 +8,7 @@ use Rattle.pair_split.specs.declared.components.Item.{Item}
 use Rattle.skeletons.specs.Families.{skeleton_graph, system_at}
 use Rattle.skeletons.proofs.NodeItems.{nth_item}
 use Rattle.skeleton_runs.proofs.SkeletonGraph.{graph-edges, item-edge, skeleton-graph}
-use Rattle.skel_decompose.specs.Followers.{IsItemEnd}
+use Rattle.skel_compose.specs.Followers.{IsItemEnd}
 use Rattle.skel_decompose.proofs.Stepped.{ends-item, over-first, over-second}
 use Rattle.long_face.proofs.RowLemmas.{items-few}
 use Rattle.long_face.proofs.polygons.steps_of.Goals as goal

@@ -1,34 +1,39 @@
-use Rattle.std.proofs.Common.{◌∙◌, ℕ, List, ap}
-use Rattle.permutations.specs.Cyclic.{successor}
-use Rattle.permutations.specs.Members.{is_member}
-use Rattle.permutations.proofs.Arrangements.{contains-from_member}
-use Rattle.rotations.specs.Rotation.{order_at}
-use Rattle.skeletons.proofs.NodeItems.{item-vertex}
-use Rattle.skel_compose.proofs.Found.{order-is, order-has, behind-is}
+use Rattle.std.proofs.Common.{◌<◌, ◌∙◌, slice_index_or, sym, ap, subst, arith}
+use Rattle.skel_compose.specs.Followers.{row_at}
+use Rattle.skel_compose.proofs.Found.{behind-is}
+use Rattle.skel_compose.proofs.Tables.{place-within}
 use Rattle.skel_compose.proofs.walking.item_behind.Goals as goal
 
--- an end of an item is a vertex
-pub place-requires-clause-vertex : goal.place-requires-clause-vertex
-place-requires-clause-vertex c = item-vertex c.requires.block.0 c.args.tree.now c.requires.block.1.tree c.args.k c.args.v c.args.i c.requires.node c.requires.item c.requires.end
+pub item_place-requires-clause-node : goal.item_place-requires-clause-node
+item_place-requires-clause-node c = c.requires.end.is_node
 
--- the item stands round the vertex
-pub succ-requires : goal.succ-requires
-succ-requires c = contains-from_member (order_at c.index-members-k.result c.place.result) c.args.i
-    (ap (is_member c.args.i) (order-is c.requires.block.0 c.args.tree.now c.requires.block.1 c.args.k c.requires.node c.args.members.now c.requires.systems c.args.v c.args.i c.requires.item c.requires.end
-    c.index-members-k.result c.place.result c.index-members-k.is c.place.ensures)
-    ∙ order-has c.requires.block.0 c.args.tree.now c.requires.block.1 c.args.k c.requires.node c.args.members.now c.requires.systems c.args.v c.args.i c.requires.item c.requires.end)
+pub item_place-requires-clause-item : goal.item_place-requires-clause-item
+item_place-requires-clause-item c = c.requires.end.is_item
 
+-- the place is in the row
+pub number-requires-clause-list : goal.number-requires-clause-list
+number-requires-clause-list c = subst (λ n. c.args.k < n) (sym c.requires.table.each) c.requires.end.is_node
+
+pub number-requires-clause-place : goal.number-requires-clause-place
+number-requires-clause-place c = omega (arith, c.item_place.ensures, place-within c.args.tree.now c.args.table.now c.requires.table c.args.k c.args.i c.args.v c.requires.end)
+
+-- what it has there follows in each family that the table is of
 pub returns-clause-item : goal.returns-clause-item
-returns-clause-item c = (behind-is c.requires.block.0 c.args.tree.now c.requires.block.1 c.args.k c.requires.node c.args.members.now c.requires.systems c.args.v c.args.i c.requires.item c.requires.end c.succ.result
-    (c.succ.ensures ∙ ap (λ (z : List ℕ). successor z c.args.i) (order-is c.requires.block.0 c.args.tree.now c.requires.block.1 c.args.k c.requires.node c.args.members.now c.requires.systems c.args.v c.args.i c.requires.item c.requires.end
-    c.index-members-k.result c.place.result c.index-members-k.is c.place.ensures))).0
+returns-clause-item c =
+    let end = c.requires.end in
+    let t = c.requires.family.1 in
+    (behind-is c.requires.block.0 c.args.tree.now c.requires.block.1 c.args.k end.is_node c.requires.family.0 t.systems c.args.v c.args.i end.is_item end.end c.number.result
+    (c.number.ensures ∙ ap (λ z. slice_index_or (row_at c.args.table.now c.args.k) z 0) c.item_place.ensures ∙ t.followers c.args.k c.args.i c.args.v end)).0
 
 pub returns-clause-end : goal.returns-clause-end
-returns-clause-end c = (behind-is c.requires.block.0 c.args.tree.now c.requires.block.1 c.args.k c.requires.node c.args.members.now c.requires.systems c.args.v c.args.i c.requires.item c.requires.end c.succ.result
-    (c.succ.ensures ∙ ap (λ (z : List ℕ). successor z c.args.i) (order-is c.requires.block.0 c.args.tree.now c.requires.block.1 c.args.k c.requires.node c.args.members.now c.requires.systems c.args.v c.args.i c.requires.item c.requires.end
-    c.index-members-k.result c.place.result c.index-members-k.is c.place.ensures))).1
+returns-clause-end c =
+    let end = c.requires.end in
+    let t = c.requires.family.1 in
+    (behind-is c.requires.block.0 c.args.tree.now c.requires.block.1 c.args.k end.is_node c.requires.family.0 t.systems c.args.v c.args.i end.is_item end.end c.number.result
+    (c.number.ensures ∙ ap (λ z. slice_index_or (row_at c.args.table.now c.args.k) z 0) c.item_place.ensures ∙ t.followers c.args.k c.args.i c.args.v end)).1
 
 pub returns-clause-key : goal.returns-clause-key
-returns-clause-key c = (behind-is c.requires.block.0 c.args.tree.now c.requires.block.1 c.args.k c.requires.node c.args.members.now c.requires.systems c.args.v c.args.i c.requires.item c.requires.end c.succ.result
-    (c.succ.ensures ∙ ap (λ (z : List ℕ). successor z c.args.i) (order-is c.requires.block.0 c.args.tree.now c.requires.block.1 c.args.k c.requires.node c.args.members.now c.requires.systems c.args.v c.args.i c.requires.item c.requires.end
-    c.index-members-k.result c.place.result c.index-members-k.is c.place.ensures))).2
+returns-clause-key c = λ family t.
+    let end = c.requires.end in
+    (behind-is c.requires.block.0 c.args.tree.now c.requires.block.1 c.args.k end.is_node family t.systems c.args.v c.args.i end.is_item end.end c.number.result
+    (c.number.ensures ∙ ap (λ z. slice_index_or (row_at c.args.table.now c.args.k) z 0) c.item_place.ensures ∙ t.followers c.args.k c.args.i c.args.v end)).2

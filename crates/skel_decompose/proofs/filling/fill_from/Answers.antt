@@ -2,7 +2,8 @@ use Rattle.std.proofs.Common.{ℕ, ◌+◌, List, length, sym, ap, ◌∙◌, su
 use Rattle.pair_split.specs.declared.components.Item.{Item}
 use Rattle.skeletons.proofs.NodeItems.{nth_item}
 use Rattle.skel_compose.specs.Homes.{IsHome}
-use Rattle.skel_decompose.specs.Followers.{IsTable, HasLasts}
+use Rattle.skel_compose.specs.Followers.{IsTable}
+use Rattle.skel_decompose.specs.Followers.{HasLasts}
 use Rattle.skel_decompose.proofs.Searched.{items-few}
 use Rattle.skel_decompose.proofs.Complete.{home-edge, home-read, ends-first, ends-second, lasts-more, lasts-pass}
 use Rattle.skel_decompose.proofs.filling.fill_from.Goals.{in-Real, in_default}

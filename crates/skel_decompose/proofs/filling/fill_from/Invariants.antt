@@ -1,5 +1,6 @@
 use Rattle.std.proofs.Common.{ℕ, List}
-use Rattle.skel_decompose.specs.Followers.{IsFamily, IsTable, HasLasts}
+use Rattle.skel_compose.specs.Followers.{IsTable}
+use Rattle.skel_decompose.specs.Followers.{IsFamily, HasLasts}
 use Rattle.skel_decompose.proofs.filling.fill_from.Given as goal
 
 abbrev pub invariant-loop-i : goal.invariant-loop-i

@@ -5,7 +5,7 @@ use Rattle.rotations.specs.Rotation.{order_at}
 use Rattle.skeletons.specs.Families.{skeleton_graph, system_at}
 use Rattle.skel_compose.proofs.Rounds.{round-more}
 use Rattle.skel_decompose.proofs.Gathered.{some-item, items-start, item-around, item-next}
-use Rattle.skel_decompose.specs.Followers.{row_at}
+use Rattle.skel_compose.specs.Followers.{row_at}
 use Rattle.skel_decompose.proofs.Written.{place-in}
 use Rattle.skel_decompose.proofs.members.items_round.Goals as goal
 
@@ -20,7 +20,7 @@ bounds-incident-0 c = omega (
 -- the first item
 pub loop-turn-init : goal.loop-turn-init
 loop-turn-init c = λ family f h.
-    items-start c.requires.block.0 c.args.tree.now c.requires.block.1 c.args.k c.args.p c.requires.node c.requires.place family f (get_or c.incident.result.now 0 0) c.in_ok-items.items.items c.in_ok-items.ensures.items
+    items-start c.requires.block.0 c.args.tree.now c.requires.block.1 c.args.k c.args.p c.requires.node c.requires.place family f (get_or c.incident.result.now 0 0) c.clear.new.self.items c.clear.ensures.items
     (ap (λ (z : List ℕ). get_or z 0 0) c.incident.ensures.value ∙ ap (λ (z : Multigraph). get_or (incident_edges z c.args.p) 0 0) c.requires.skeleton)
 
 pub item_place-requires-clause-item : goal.item_place-requires-clause-item

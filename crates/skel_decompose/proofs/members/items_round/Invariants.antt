@@ -5,7 +5,7 @@ use Rattle.permutations.specs.Members.{is_member}
 use Rattle.multigraph.specs.Graph.{incident_edges}
 use Rattle.rotations.specs.Rotation.{order_at}
 use Rattle.skeletons.specs.Families.{skeleton_graph, system_at, AreSkeletonSystems}
-use Rattle.skel_decompose.specs.Followers.{HasFollowers}
+use Rattle.skel_compose.specs.Followers.{HasFollowers}
 use Rattle.skel_decompose.proofs.members.items_round.Given as goal
 
 abbrev pub invariant-loop-turn : goal.invariant-loop-turn

@@ -3,7 +3,7 @@ use Rattle.rotations.specs.Given.{given_order}
 use Rattle.rotations.specs.Rotation.{order_at, IsRotationSystem}
 use Rattle.skeletons.specs.Families.{system_at, AreSkeletonSystems}
 use Rattle.skel_compose.proofs.Rounds.{both-ok}
-use Rattle.skel_decompose.specs.Followers.{HasFollowers}
+use Rattle.skel_compose.specs.Followers.{HasFollowers}
 use Rattle.skel_decompose.proofs.Gathered.{member-made}
 use Rattle.skel_decompose.proofs.members.member_of.Goals as goal
 

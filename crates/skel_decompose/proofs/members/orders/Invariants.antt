@@ -1,7 +1,7 @@
 use Rattle.std.proofs.Common.{◌≡◌, ℕ, List}
 use Rattle.skeletons.specs.Families.{system_at, AreSkeletonSystems}
 use Rattle.skel_compose.specs.Orders.{orders_below}
-use Rattle.skel_decompose.specs.Followers.{HasFollowers}
+use Rattle.skel_compose.specs.Followers.{HasFollowers}
 use Rattle.skel_decompose.proofs.members.orders.Given as goal
 
 abbrev pub invariant-loop-p : goal.invariant-loop-p

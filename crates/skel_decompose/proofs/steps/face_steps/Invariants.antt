@@ -1,7 +1,7 @@
 use Rattle.std.proofs.Common.{ℕ, ◌*◌, List}
 use Rattle.faces.specs.Steps.{AreStepsBelow}
 use Rattle.skeletons.specs.Families.{skeleton_graph, system_at, AreSkeletonSystems}
-use Rattle.skel_decompose.specs.Followers.{HasFollowers}
+use Rattle.skel_compose.specs.Followers.{HasFollowers}
 use Rattle.skel_decompose.proofs.steps.face_steps.Given as goal
 
 abbrev pub invariant-loop-i : goal.invariant-loop-i

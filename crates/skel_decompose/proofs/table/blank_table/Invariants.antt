@@ -1,6 +1,6 @@
 use Rattle.std.proofs.Common.{◌≡◌, ◌<◌, ◌*◌, ℕ, length}
 use Rattle.pair_split.specs.Tutte.{node_at}
-use Rattle.skel_decompose.specs.Followers.{row_at}
+use Rattle.skel_compose.specs.Followers.{row_at}
 use Rattle.skel_decompose.proofs.table.blank_table.Given as goal
 
 abbrev pub invariant-loop-k : goal.invariant-loop-k

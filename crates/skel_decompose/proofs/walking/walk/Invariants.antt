@@ -2,7 +2,8 @@ use Rattle.std.proofs.Common.{ℕ, List}
 use Rattle.permutations.specs.Cyclic.{successor}
 use Rattle.rotations.specs.Rotation.{order_at}
 use Rattle.skel_compose.proofs.Walk.{LeadsOn, IsNear}
-use Rattle.skel_decompose.specs.Followers.{IsFamily, IsTable, Keeps, IsAhead}
+use Rattle.skel_compose.specs.Followers.{IsTable}
+use Rattle.skel_decompose.specs.Followers.{IsFamily, Keeps, IsAhead}
 use Rattle.skel_decompose.proofs.walking.walk.Given as goal
 
 abbrev pub invariant-loop-links : goal.invariant-loop-links
