@@ -119,8 +119,8 @@ module _ (comps : List Comp) (split : AreSplit comps) where
         go-apart j (inl l) h = subst (λ (c : Comp). NoneAlike comps c.kind c.items) (old j l) (f.finished.apart j l)
         go-apart j (inr l) h = subst (λ z. NoneAlike comps (component_at (s.groups ++ made ∷ []) z).kind (items_of (s.groups ++ made ∷ []) z)) (last j l h) (subst (λ (c : Comp). NoneAlike comps c.kind c.items) new apart)
 
-    pub finished-rests : (next : MergingState) → next.groups ≡ s.groups ++ made ∷ [] → next.done ≡ [] → next.live ≡ s.live → next.lead ≡ s.lead → next.stack ≡ s.stack → IsResting comps next
-    finished-rests next groups done live table stack = subst (IsResting comps) (λ i. record { live = sym live i; lead = sym table i; groups = sym groups i; done = sym done i; stack = sym (stack ∙ empty) i }) (record {
+    pub finished-rests : (next : MergingState) → next.groups ≡ s.groups ++ made ∷ [] → next.done ≡ s.stack → next.live ≡ s.live → next.lead ≡ s.lead → next.stack ≡ [] → IsResting comps next
+    finished-rests next groups done live table stack = subst (IsResting comps) (λ i. record { live = sym live i; lead = sym table i; groups = sym groups i; done = sym (done ∙ empty) i; stack = sym stack i }) (record {
       live = f.live;
       places = f.places;
       led = λ x h. let o : lead x ≤ length s.groups = f.led x h in omega (arith, length-append s.groups (made ∷ []), o);

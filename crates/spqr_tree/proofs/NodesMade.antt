@@ -1,8 +1,9 @@
 -- The nodes of the tree as they are made, one component after the other.
-use Rattle.std.proofs.Common.{◌≡◌, ℕ, ◌+◌, ◌<◌, ◌⊎◌, inl, inr, List, [], ◌∷◌, ◌++◌, length, length-append, slice_index_or, Vec, Global, sym, ap, ◌∙◌, subst, arith}
+use Rattle.std.proofs.Common.{◌≡◌, ℕ, ◌+◌, ◌<◌, ◌⊎◌, inl, inr, List, [], ◌∷◌, ◌++◌, length, length-append, slice_index_or, sym, ap, ◌∙◌, subst, arith}
 use Rattle.std.proofs.lemmas.Bool.{cases_eq}
 use Rattle.std.proofs.lemmas.List.{get_or_default, get_or-map, get_or_append_left}
 use Rattle.std.proofs.Math.Seq.{get_or-append_seam}
+use Rattle.smallvec.specs.SmallVec.{SmallVec}
 use Rattle.pair_split.specs.Split.{component_at}
 use Rattle.graph_theory.specs.Block.{IsOneBlock}
 use Rattle.pair_split.specs.Tutte.{Node, node_at, node_item, components, IsTutte}
@@ -25,16 +26,16 @@ pub component-is : (comps : List Comp) (k : ℕ) (comp : Comp) → k < length co
 component-is comps k comp l e = e ∙ get_or_default comps k comp (component_at [] 0) l
 
 -- the vertices of a rank that is read at its place
-pub rank-is : (ranks : List (Vec ℕ Global × ℕ)) (k : ℕ) (entry : Vec ℕ Global × ℕ) (vertices : List ℕ) → k < length ranks → vertices ≡ (slice_index_or ranks k entry).0.items → vertices ≡ (rank_at (ranks_of ranks) k).0
+pub rank-is : (ranks : List (SmallVec ℕ × ℕ)) (k : ℕ) (entry : SmallVec ℕ × ℕ) (vertices : List ℕ) → k < length ranks → vertices ≡ (slice_index_or ranks k entry).0.items → vertices ≡ (rank_at (ranks_of ranks) k).0
 rank-is ranks k entry vertices l v = v ∙ ap (λ (r : Rank). r.0) (sym (get_or-map rank_of ranks k entry ([], 0) l))
 
 -- the nodes so far are right
-abbrev pub AreMade : List Comp → List (Vec ℕ Global × ℕ) → List ℕ → List ℕ → List Node → ℕ → Type 0
+abbrev pub AreMade : List Comp → List (SmallVec ℕ × ℕ) → List ℕ → List ℕ → List Node → ℕ → Type 0
 AreMade comps ranks parents noted nodes n =
     (length nodes ≡ n) × ((k : ℕ) → k < length nodes → IsMadeOf (component_at comps k) (rank_at (ranks_of ranks) k).0 (node_at nodes k)) × (HaveKeys parents noted nodes)
 
 -- one node more
-pub made-more : (comps : List Comp) (ranks : List (Vec ℕ Global × ℕ)) (parents noted : List ℕ) (nodes new : List Node) (node : Node) (n : ℕ) (comp : Comp) (vertices : List ℕ)
+pub made-more : (comps : List Comp) (ranks : List (SmallVec ℕ × ℕ)) (parents noted : List ℕ) (nodes new : List Node) (node : Node) (n : ℕ) (comp : Comp) (vertices : List ℕ)
     → AreMade comps ranks parents noted nodes n → new ≡ nodes ++ node ∷ [] → comp ≡ component_at comps n → vertices ≡ (rank_at (ranks_of ranks) n).0 → IsMadeOf comp vertices node
     → ((i : ℕ) → i < length node.items → (nth_item node.items i).key ≡ link_key (parent_at parents n) noted (nth_item node.items i).what) → AreMade comps ranks parents noted new (n + 1)
 made-more comps ranks parents noted nodes new node n comp vertices made e is at right keys = (

@@ -12,7 +12,7 @@ ghost use Rattle.spqr_tree.specs.Absent.{absent};
 
 use crate::merging::{Merging, groups_of};
 use crate::naming::place_groups;
-use crate::ranking::{places, ranks};
+use crate::ranking::{Rank, places, ranks};
 use multigraph::Graph;
 use pair_split::{Comp, CompList};
 use std::alloc::{AllocError, Global};
@@ -37,14 +37,14 @@ fn arrange_groups(
     alloc: Global,
     g: &Graph,
     lead: &[u32],
-    groups: &[Comp],
-) -> Result<(Vec<Comp>, Vec<(Vec<u32>, u32)>), AllocError>
+    groups: Vec<Comp>,
+) -> Result<(Vec<Comp>, Vec<Rank>), AllocError>
     requires block { IsOneBlock g.now }
-    requires groups { AreGroupsOf g.now lead.now groups.now }
-    requires few { length groups.now < absent }
+    requires groups { AreGroupsOf g.now lead.now groups.items }
+    requires few { length groups.items < absent }
     ensures { IfOk result (λ r. IsArranged g.now r.0.items (ranks_of r.1.items)) }
 {
-    let ranks = ranks(alloc, groups)?;
+    let ranks = ranks(alloc, &groups)?;
     let places = places(alloc, &ranks)?;
     let all = place_groups(alloc, lead, groups, &places, &ranks)?;
     Ok((all, ranks))
@@ -55,11 +55,11 @@ pub(crate) fn arrange(
     alloc: Global,
     g: &Graph,
     comps: CompList,
-) -> Result<(Vec<Comp>, Vec<(Vec<u32>, u32)>), AllocError>
+) -> Result<(Vec<Comp>, Vec<Rank>), AllocError>
     requires block { IsOneBlock g.now }
     requires split { IsSplit g.now comps }
     ensures { IfOk result (λ r. IsArranged g.now r.0.items (ranks_of r.1.items)) }
 {
-    let merging = groups_of_block(alloc, g, comps)?;
-    arrange_groups(alloc, g, merging.table(), merging.list())
+    let (lead, groups) = groups_of_block(alloc, g, comps)?.into_parts();
+    arrange_groups(alloc, g, &lead, groups)
 }

@@ -11,6 +11,7 @@ ghost use Rattle.spqr_tree.specs.Keys.{parent_at, AreWithin, AreApart, IsRooted,
 use crate::arranging::arrange;
 use crate::keys::{parents_and_least, sort_items};
 use crate::nodes::Nodes;
+use crate::ranking::Rank;
 use crate::tour::tour_of;
 use crate::tree::Tree;
 use multigraph::Graph;
@@ -21,7 +22,7 @@ use std::alloc::{AllocError, Global};
 fn nodes_of(
     alloc: Global,
     comps: &[Comp],
-    ranks: &[(Vec<u32>, u32)],
+    ranks: &[Rank],
     parents: &[u32],
     least: &[u32],
 ) -> Result<Nodes, AllocError>
@@ -49,7 +50,7 @@ fn finish(
     alloc: Global,
     g: &Graph,
     comps: &[Comp],
-    ranks: &[(Vec<u32>, u32)],
+    ranks: &[Rank],
     parents: &[u32],
     least: &[u32],
 ) -> Result<Tree, AllocError>
@@ -68,12 +69,7 @@ fn finish(
 }
 
 // The tree of components that are arranged.
-fn tree_of(
-    alloc: Global,
-    g: &Graph,
-    comps: &[Comp],
-    ranks: &[(Vec<u32>, u32)],
-) -> Result<Tree, AllocError>
+fn tree_of(alloc: Global, g: &Graph, comps: &[Comp], ranks: &[Rank]) -> Result<Tree, AllocError>
     requires block { IsOneBlock g.now }
     requires arranged { IsArranged g.now comps.now (ranks_of ranks.now) }
     ensures { IfOk result (IsTutte g.now) }

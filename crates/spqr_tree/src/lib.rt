@@ -20,6 +20,7 @@
 
 mod arranging;
 mod assembly;
+mod bounds;
 mod keys;
 pub mod laws;
 mod merging;

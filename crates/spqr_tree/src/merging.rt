@@ -38,8 +38,8 @@ impl Live {
         ensures { IfOk result (λ live. AreHeld comps.items live (length comps.items)) }
     {
         let mut live = Live {
-            slab: Slab::new(alloc),
-            keys: Vec::new(alloc),
+            slab: Slab::with_capacity(alloc, comps.len())?,
+            keys: Vec::with_capacity(alloc, comps.len())?,
         };
         for comp in comps {
             live.add(comp)?;
@@ -169,27 +169,29 @@ impl Merging {
         ensures empty { IfOk result (λ s. (s.groups ≡ []) × (s.done ≡ []) × (s.stack ≡ [])) }
     {
         let lead = vec![in alloc; ABSENT; comps.len()]?;
+        let groups = Vec::with_capacity(alloc, comps.len())?;
         Ok(Merging {
             live: Live::new(alloc, comps)?,
             lead,
-            groups: Vec::new(alloc),
+            groups,
             done: Vec::new(alloc),
             stack: Vec::new(alloc),
         })
     }
 
     // The group of each component.
-    pub(crate) fn table(&self) -> &[u32]
+    fn table(&self) -> &[u32]
         ensures { result.now ≡ self.now.lead }
     {
         self.lead.as_slice()
     }
 
-    // The groups.
-    pub(crate) fn list(&self) -> &[Comp]
-        ensures { result.now ≡ self.now.groups }
+    // The group of each component, and the groups.
+    pub(crate) fn into_parts(self) -> (Vec<u32>, Vec<Comp>)
+        ensures lead { result.0.items ≡ self.lead }
+        ensures groups { result.1.items ≡ self.groups }
     {
-        self.groups.as_slice()
+        (self.lead, self.groups)
     }
 
     // Whether component d is in no group yet.
@@ -317,16 +319,17 @@ impl Merging {
         self.start(c)
     }
 
-    // The group in work is finished.
+    // The group in work is finished. The next one fills the memory of the stack.
     fn finish(&mut self, alloc: Global, kind: Kind) -> Result<(), AllocError>
         ensures groups { IfOk result (λ _. self.new.groups
             ≡ self.old.groups ++ record { kind = kind; items = self.old.done } ∷ []) }
-        ensures done { IfOk result (λ _. self.new.done ≡ []) }
+        ensures done { IfOk result (λ _. self.new.done ≡ self.old.stack) }
         ensures live { IfOk result (λ _. self.new.live ≡ self.old.live) }
         ensures lead { IfOk result (λ _. self.new.lead ≡ self.old.lead) }
-        ensures stack { IfOk result (λ _. self.new.stack ≡ self.old.stack) }
+        ensures stack { IfOk result (λ _. self.new.stack ≡ []) }
     {
-        let done = mem::replace(&mut self.done, Vec::new(alloc));
+        let stack = mem::replace(&mut self.stack, Vec::new(alloc));
+        let done = mem::replace(&mut self.done, stack);
         self.groups.push(Comp {
             kind,
             items: PieceList::of(done),

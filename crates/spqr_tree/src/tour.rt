@@ -10,8 +10,8 @@ ghost use Rattle.spqr_tree.specs.Tour.{what_at, bound_count, AreToured, HasBegun
 ghost use Rattle.spqr_tree.specs.Absent.{absent};
 
 use crate::ABSENT;
+use crate::bounds::Bounds;
 use crate::nodes::Nodes;
-use multigraph::Numbers;
 use pair_split::What;
 use std::alloc::{AllocError, Global};
 use std::marker::Model;
@@ -22,7 +22,7 @@ pub(crate) struct Tour {
     at: u32,
     met: u32,
     pub(crate) places: Vec<u32>,
-    pub(crate) bounds: Vec<Numbers>,
+    pub(crate) bounds: Vec<Bounds>,
 }
 
 impl Model for Tour {
@@ -54,15 +54,14 @@ fn root_of(nodes: &Nodes) -> u32
 }
 
 // An empty list for each node, with room for its bounds.
-fn empty_lists(alloc: Global, nodes: &Nodes) -> Result<Vec<Numbers>, AllocError>
+fn empty_lists(alloc: Global, nodes: &Nodes) -> Result<Vec<Bounds>, AllocError>
     requires { length nodes.now < 2 ^ 32 }
     ensures number { IfOk result (λ lists. length lists.items ≡ length nodes.now) }
     ensures empty { IfOk result (λ lists. (k : ℕ) → bound_count lists.items k ≡ 0) }
 {
     let mut lists = Vec::with_capacity(alloc, nodes.len())?;
     for k in 0..nodes.len() as u32 {
-        let room = Vec::with_capacity(alloc, nodes.items(k).len())?;
-        lists.push(Numbers::of(room))?;
+        lists.push(Bounds::with_capacity(alloc, nodes.items(k).len())?)?;
     }
     Ok(lists)
 }

@@ -5,8 +5,8 @@ ghost use Rattle.std.specs.List.Sorted.{IsNonDecreasingBy};
 ghost use Rattle.multigraph.specs.Graph.{Multigraph, IsGraph, edge_count};
 ghost use Rattle.pair_split.specs.Tutte.{node_at, group, IsTutte};
 
+use crate::bounds::Bounds;
 use crate::nodes::Nodes;
-use multigraph::Numbers;
 use pair_split::{Item, Kind};
 use std::alloc::{AllocError, Global};
 use std::marker::Model;
@@ -18,7 +18,7 @@ use std::marker::Model;
 pub struct Tree {
     pub(crate) nodes: Nodes,
     pub(crate) places: Vec<u32>,
-    pub(crate) bounds: Vec<Numbers>,
+    pub(crate) bounds: Vec<Bounds>,
 }
 
 impl Model for Tree {
@@ -105,7 +105,7 @@ fn bounds_up_to(bounds: &[u32], place: u32) -> usize
 }
 
 // A copy of the lists.
-fn copy_lists(alloc: Global, lists: &[Numbers]) -> Result<Vec<Numbers>, AllocError>
+fn copy_lists(alloc: Global, lists: &[Bounds]) -> Result<Vec<Bounds>, AllocError>
     ensures { IfOk result (λ copies. copies.items ≡ lists.now) }
 {
     let mut copies = Vec::with_capacity(alloc, lists.len())?;

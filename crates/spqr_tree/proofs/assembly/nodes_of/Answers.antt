@@ -27,7 +27,7 @@ loop-k-preserved c =
     made-more c.args.comps.now c.args.ranks.now c.args.parents.now c.args.least.now c.loop-k.nodes c.in_ok-nodes-2.nodes
     (record { kind = c.index-comps-k.result.kind; vertices = c.as_slice-in-loop-k.result.now; items = c.deref.result.now }) c.loop-k.k c.index-comps-k.result c.as_slice-in-loop-k.result.now
     c.loop-k.invariant c.in_ok-nodes-2.ensures (component-is c.args.comps.now c.loop-k.k c.index-comps-k.result c.loop-k-test.true c.index-comps-k.is)
-    (rank-is c.args.ranks.now c.loop-k.k c.index-ranks-k.result c.as_slice-in-loop-k.result.now (omega (arith, c.loop-k-test.true, c.requires.number)) c.as_slice-in-loop-k.ensures.value)
+    (rank-is c.args.ranks.now c.loop-k.k c.index-ranks-k.result c.as_slice-in-loop-k.result.now (omega (arith, c.loop-k-test.true, c.requires.number)) c.as_slice-in-loop-k.ensures)
     (record {
       kind = refl;
       vertices = refl;
