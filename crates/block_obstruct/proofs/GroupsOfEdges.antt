@@ -1,9 +1,7 @@
 -- The groups of the edges, noted node by node, and the edges by their notes.
-use Rattle.std.proofs.Common.{◌≡◌, ℕ, ◌+◌, ◌<◌, ◌⊎◌, ◌==◌, inl, inr, List, [], ◌∷◌, ◌++◌, length, set, get_or, refl, sym, ap, ◌∙◌, subst, arith}
-use Rattle.std.proofs.lemmas.Bool.{cases_eq, eq-eqb, ne_eqb}
-use Rattle.std.proofs.lemmas.List.{length-set, get_or-set_same, get_or-set_other}
+use Rattle.std.proofs.Common.{◌≡◌, ℕ, ◌+◌, ◌<◌, ◌⊎◌, inl, inr, List, length, refl, sym, ap, ◌∙◌, subst, arith}
+use Rattle.std.proofs.lemmas.Bool.{cases_eq, eq-eqb}
 use Rattle.multigraph.specs.Graph.{Multigraph, edge_count}
-use Rattle.multigraph.proofs.Below.{filter_below-yes, filter_below-no}
 use Rattle.pair_split.specs.Tutte.{Node, components, node_at, node_item, has_in_group, IsTutte}
 use Rattle.pair_split.specs.declared.components.Comp.{Comp}
 use Rattle.pair_split.specs.declared.components.What.{What}
@@ -13,7 +11,7 @@ use Rattle.pair_split.proofs.Links.{stands-in}
 use Rattle.skeletons.proofs.NodeItems.{node-in, stands-of, item-of}
 use Rattle.block_obstruct.specs.Listing.{note_of}
 use Rattle.block_obstruct.specs.Towards.{HaveItem, IsItem, IsTowards}
-use Rattle.block_obstruct.specs.Groups.{IsInGroup, AreNoted, AreOwners, noted_with}
+use Rattle.block_obstruct.specs.Groups.{IsInGroup, AreNoted, AreOwners}
 
 module _ (g : Multigraph) (nodes : List Node) (t : IsTutte g nodes) (k : ℕ) where
   abbrev comps : List Comp

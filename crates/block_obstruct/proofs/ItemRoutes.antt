@@ -24,11 +24,12 @@ use Rattle.skeleton_runs.proofs.Items.{met-edge_end}
 use Rattle.skeleton_runs.proofs.ItemPaths.{path-through}
 use Rattle.skeleton_runs.proofs.NodeFits.{vertex-fits, item-first, item-second}
 use Rattle.skeleton_runs.proofs.SkeletonGraph.{skeleton-limits, graph-edges, edge-item, graph-ends, place-at}
+use Rattle.graph_paths.specs.Along.{PathAlong}
 use Rattle.block_obstruct.specs.Listing.{note_of}
 use Rattle.block_obstruct.specs.Towards.{item_in}
 use Rattle.kuratowski.specs.Routes.{route_start, route_end, route_vertices, route_at, EndsRoute, AreRoutes}
 use Rattle.multigraph.specs.Buckets.{ArePlaces}
-use Rattle.block_obstruct.specs.Groups.{AreOwners, noted_with, PathAlong, IsItemRoute, AreItemRoutes}
+use Rattle.block_obstruct.specs.Groups.{AreOwners, noted_with, IsItemRoute, AreItemRoutes}
 
 -- a path between the ends of an item, where the lists are read elsewhere
 pub path-of : (g : Multigraph) (edges others : List ℕ) (items pieces : List Item) (i : ℕ) → edges ≡ others → items ≡ pieces → PathAlong g others (item_in pieces i).a (item_in pieces i).b → PathAlong g edges (item_in items i).a (item_in items i).b

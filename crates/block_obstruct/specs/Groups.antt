@@ -29,12 +29,6 @@ noted_with notes n i = filter (λ e. note_of notes e == i) (numbers_below n)
 abbrev pub AreGroupLists : Multigraph → List Node → ℕ → List (List ℕ) → Type 0
 AreGroupLists g nodes k lists = (notes : List ℕ) × AreOwners g nodes k notes × ArePlaces notes (edge_count g) (length (node_at nodes k).items) lists
 
--- a path of g from one vertex to another along some of these edges
-pub record PathAlong (g : Multigraph) (edges : List ℕ) (x y : ℕ) : Type 0 where
-  pub along : List ℕ
-  pub path : IsPath g x along y
-  pub among : (e : ℕ) → is_member e along ≡ true → is_member e edges ≡ true
-
 -- the path goes from the one end of item i of node k to the other, along edges of the group of the item
 pub record IsItemRoute (g : Multigraph) (nodes : List Node) (k i : ℕ) (along : List ℕ) : Type 0 where
   pub path : IsPath g (node_item nodes k i).a along (node_item nodes k i).b

@@ -2,4 +2,3 @@
 pub mod Listing
 pub mod Towards
 pub mod Groups
-pub mod Search

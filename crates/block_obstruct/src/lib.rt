@@ -7,22 +7,18 @@
 // `obstruct_block` carries a subdivision over along them, by `kuratowski::lift`.
 //
 // The groups of all items are found in one pass: a search from the node through the links of the tree finds for each other node
-// the item that leads there. A route is found by a search in the order of distance (Moore 1959) in the part of the block that a
-// group makes. Nothing recurses.
+// the item that leads there. A route is a path along the edges of a group, found by `graph_paths::path_along`. Nothing recurses.
 //
 // The lemmas that are used most (preceded by their module of proofs/):
 //   Listed         listed-more, grows-more, listed-few: numbers on a list, each once, with notes
 //   TowardsNodes   reached-next, reached-all: the search through the links
 //   GroupsOfEdges  far-right, noted-all: the groups of the edges
-//   SearchSteps    search-next, search-done, way-next, way-done: the search in a graph, and the way back
-//   PartPaths      part-joined, outer-path: paths of a part and of the whole graph
 //   ItemRoutes     group-path, route-right, item-routes: the paths through the groups are routes
 #![tactic(auto)]
 
 mod groups;
 mod listing;
 mod obstructing;
-mod search;
 mod towards;
 
 pub use kuratowski::lift;

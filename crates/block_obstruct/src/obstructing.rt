@@ -9,7 +9,7 @@ ghost use Rattle.kuratowski.specs.Routes.{AreRoutes, lifted_branches};
 ghost use Rattle.block_obstruct.specs.Groups.{AreGroupLists, AreItemRoutes};
 
 use crate::groups::groups;
-use crate::search::path_along;
+use graph_paths::path_along;
 use kuratowski::{Subdivision, lift};
 use multigraph::{Graph, Numbers};
 use spqr_tree::Tree;

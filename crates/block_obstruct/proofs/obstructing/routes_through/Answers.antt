@@ -12,8 +12,8 @@ use Rattle.block_obstruct.specs.Groups.{AreItemRoutes}
 use Rattle.block_obstruct.proofs.ItemRoutes.{routes-more, group-rises, group-below, group-path, route-right, path-of}
 use Rattle.block_obstruct.proofs.obstructing.routes_through.Goals as goal
 
-pub path_along-requires-clause-rising : goal.path_along-requires-clause-rising
-path_along-requires-clause-rising c =
+pub path_along-requires-clause-increasing : goal.path_along-requires-clause-increasing
+path_along-requires-clause-increasing c =
     let l = subst (λ (z : List Item). c.loop-i.i < length z) c.items-items.ensures c.loop-i-test.true in
     let b : c.loop-i.i < length c.args.groups.now = omega (arith, c.requires.groups.2.counted, c.loop-i-test.true, ap (λ (z : List Item). length z) c.items-items.ensures) in
     let e : c.as_slice.result.now ≡ slice_index_or c.args.groups.now c.loop-i.i [] = c.as_slice.ensures ∙ get_or_read c.args.groups.now c.loop-i.i c.index-groups-i.result b c.index-groups-i.is [] in

@@ -1,5 +1,0 @@
-use Rattle.std.proofs.Common.{◌≡◌, map, take, slice_index}
-use Rattle.block_obstruct.proofs.search.whole_edges.Given as goal
-
-abbrev pub invariant-loop-edge : goal.invariant-loop-edge
-invariant-loop-edge l = l.along.items ≡ map (λ e. slice_index l.fn.part.edges e) (take l.edge-index l.fn.edges)
