@@ -1,8 +1,8 @@
--- How many items a node has, and how many numbers its darts.
+-- How few items a node has, and how many numbers its darts.
 use Rattle.std.proofs.Common.{◌≡◌, ◌≢◌, ℕ, ◌*◌, ◌<◌, ◌≤◌, ◌⊎◌, Bool, true, false, inl, inr, List, length, sym, ap, ◌∙◌, subst, arith}
 use Rattle.std.proofs.lemmas.Bool.{true≢false}
 use Rattle.std.proofs.lemmas.List.{length-map}
-use Rattle.multigraph.specs.Graph.{Multigraph, IsWithinLimits}
+use Rattle.multigraph.specs.Graph.{Multigraph}
 use Rattle.pair_split.specs.Split.{items_of, piece_ends}
 use Rattle.pair_split.specs.Tutte.{Node, components, node_at, piece_of}
 use Rattle.pair_split.specs.declared.components.Kind.{Kind}
@@ -10,7 +10,7 @@ use Rattle.pair_split.specs.declared.components.Kind.TheVariants.{S, P, R, B}
 use Rattle.pair_split.proofs.NodeParts.{node-pieces}
 use Rattle.skeletons.specs.Items.{IsBlockTree}
 use Rattle.skeletons.proofs.NodeItems.{edge-item}
-use Rattle.skeleton_runs.proofs.SkeletonGraph.{graph-edges, skeleton-limits}
+use Rattle.skeleton_runs.proofs.SkeletonGraph.{graph-edges}
 use Rattle.skeleton_planes.proofs.OneSystem.{kind-of}
 use Rattle.face_weights.specs.Numbers.{KnowFaces, numbers_at}
 
@@ -29,11 +29,7 @@ other-kind kind c = elim c [
 ]
 
 module _ (g : Multigraph) (nodes : List Node) (b : IsBlockTree g nodes) (k : ℕ) (l : k < length nodes) where
-  -- at most as many as a block has edges
-  pub items-few : IsWithinLimits g → length (node_at nodes k).items ≤ 50000
-  items-few limits = subst (λ n. n ≤ 50000) (graph-edges g nodes b k l) (skeleton-limits g nodes b k l limits).few_edges
-
-  -- one at least
+  -- a node has an item
   pub items-some : 0 < length (node_at nodes k).items
   items-some = let w = edge-item g nodes b.tree k 0 l b.block.has_edge in omega (arith, w.1)
 

@@ -1,14 +1,14 @@
 // The face steps of a polygon: two items meet at each of its vertices, and a face that arrives by one of them continues by the other, whose
 // place is the sum of both places without that of the first.
 
-ghost use Rattle.std.specs.Prelude.{◌≡◌, ◌<◌, ◌+◌, ℕ, true, List, length, IfOk};
+ghost use Rattle.std.specs.Prelude.{◌≡◌, ◌<◌, ◌+◌, ℕ, List, length, IfOk};
 ghost use Rattle.permutations.specs.Members.{place_of};
 ghost use Rattle.multigraph.specs.Graph.{Multigraph, IsWithinLimits};
 ghost use Rattle.faces.specs.Euler.{dart_from};
 ghost use Rattle.faces.specs.Steps.{AreFaceSteps};
 ghost use Rattle.pair_split.specs.Tutte.{node_at};
 ghost use Rattle.pair_split.specs.declared.components.Kind.TheVariants.{S};
-ghost use Rattle.skeletons.specs.Items.{has_vertex, IsBlockTree};
+ghost use Rattle.skeletons.specs.Items.{IsBlockTree};
 ghost use Rattle.skeletons.specs.Moves.{IsNodeOfKind};
 ghost use Rattle.skeletons.specs.Families.{skeleton_graph, system_at, AreSkeletonSystems};
 ghost use Rattle.skel_compose.specs.Followers.{IsItemEnd, follower};

@@ -7,12 +7,11 @@ use Rattle.std.proofs.lemmas.List.Sorted.{IsNonDecreasingBy-from_default}
 use Rattle.std.proofs.lemmas.Bool.Decides.{nat_tests}
 use Rattle.std.proofs.lemmas.Bool.{cases_eq, cases_lt}
 use Rattle.multigraph.specs.Part.{Rises}
-use Rattle.multigraph.specs.Graph.{Multigraph, edge_count, max_edges, IsWithinLimits}
+use Rattle.multigraph.specs.Graph.{Multigraph, edge_count}
 use Rattle.pair_split.specs.Tutte.{Node, components, node_at, node_item, has_in_group, group}
 use Rattle.pair_split.specs.declared.components.Item.{Item}
 use Rattle.skeletons.specs.Items.{item_key, IsBlockTree}
 use Rattle.skeletons.proofs.NodeItems.{no_item, nth_item, edge-item, group-is}
-use Rattle.skeleton_runs.proofs.SkeletonGraph.{skeleton-limits, graph-edges}
 use Rattle.skel_compose.specs.Homes.{home_at, IsHome, HasHomes}
 use Rattle.skel_compose.proofs.Back.{items-rise}
 use Rattle.skel_compose.proofs.Found.{home-is}
@@ -43,11 +42,7 @@ module _ (items : List Item) (key : ℕ) (r : Rises (map item_key items)) where
   )
 
 module _ (g : Multigraph) (nodes : List Node) (b : IsBlockTree g nodes) (k : ℕ) (d : k < length nodes) where
-  -- the items of a node are few
-  pub items-few : IsWithinLimits g → length (node_at nodes k).items ≤ max_edges
-  items-few limits = subst (λ n. n ≤ max_edges) (graph-edges g nodes b k d) (skeleton-limits g nodes b k d limits).few_edges
-
-  -- one of them has the key of an edge's group
+  -- one of the items of a node has the key of an edge's group
   pub group-held : (e : ℕ) → e < edge_count g → (items : List Item) → items ≡ (node_at nodes k).items → (i : ℕ) × (i < length items) × ((nth_item items i).key ≡ group nodes k e)
   group-held e l items q = subst (λ (z : List Item). (i : ℕ) × (i < length z) × ((nth_item z i).key ≡ group nodes k e)) (sym q)
       (let w = edge-item g nodes b.tree k e d l in (w.0, w.1, sym (group-is g nodes b.tree k w.0 e w.1 l w.2)))

@@ -8,9 +8,9 @@
 // of its run is followed by one of another group, or the item is an edge that is alone at the vertex.
 //
 // `decompose` gives the one family that a rotation system follows. Where its members need not be made, `followers` gives the table,
-// `member_of` one member, and `face_steps` the face steps of one member after the other. All fail only if memory runs out. All walks together take as many steps
-// as the skeletons have items, twice, and each step takes a look at where an edge is, or a binary search in a node. Nothing
-// recurses. The lists of all nodes are kept as one (`FlatLists`).
+// `member_of` one member, and `face_steps` the face steps of one member after the other. All fail only if memory runs out. All
+// walks together take as many steps as the skeletons have items, twice, and each step takes a look at where an edge is, or a
+// binary search in a node. Nothing recurses. The lists of all nodes are kept as one (`FlatLists`).
 //
 // The lemmas, by their modules in proofs/:
 //   Searched  searched: a binary search by key; home-own: the item of an edge in its own node

@@ -3,7 +3,7 @@
 
 ghost use Rattle.std.specs.Prelude.{◌≡◌, ◌<◌, ◌++◌, ◌⊎◌, ℕ, true, length, map, IfOk};
 ghost use Rattle.permutations.specs.Members.{is_member};
-ghost use Rattle.multigraph.specs.Graph.{Multigraph, max_edges, numbers_below, IsWithinLimits};
+ghost use Rattle.multigraph.specs.Graph.{Multigraph, numbers_below, IsWithinLimits};
 ghost use Rattle.rotations.specs.Rotation.{order_at};
 ghost use Rattle.pair_split.specs.Tutte.{node_at};
 ghost use Rattle.pair_split.specs.declared.components.Kind.TheVariants.{S, P, R, B};

@@ -16,7 +16,8 @@ use Rattle.skel_compose.specs.Followers.{HasFollowers, IsTable}
 use Rattle.long_face.specs.Bonds.{AreBondNumbers}
 use Rattle.long_face.proofs.BondNumbers.{bond-known}
 use Rattle.long_face.proofs.Greatest.{present-family}
-use Rattle.long_face.proofs.RowLemmas.{items-few, items-some, other-kind}
+use Rattle.skel_compose.proofs.Found.{items-few}
+use Rattle.long_face.proofs.RowLemmas.{items-some, other-kind}
 use Rattle.long_face.proofs.numbers.numbers_at.Goals as goal
 
 pub bond_numbers-requires-clause-few : goal.bond_numbers-requires-clause-few

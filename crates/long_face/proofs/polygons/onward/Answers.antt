@@ -3,7 +3,7 @@ use Rattle.std.proofs.Math.Facts.{Fits-le}
 use Rattle.skeletons.specs.Families.{system_at}
 use Rattle.skel_compose.proofs.EndSums.{sum-in, sum-is, other-is, other-in}
 use Rattle.long_face.proofs.PolygonSteps.{leaves-first, leaves-second}
-use Rattle.long_face.proofs.RowLemmas.{items-few}
+use Rattle.skel_compose.proofs.Found.{items-few}
 use Rattle.long_face.proofs.polygons.onward.Goals as goal
 
 pub bounds-sums-v : goal.bounds-sums-v

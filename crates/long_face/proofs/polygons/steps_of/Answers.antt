@@ -10,7 +10,7 @@ use Rattle.skeletons.proofs.NodeItems.{nth_item}
 use Rattle.skeleton_runs.proofs.SkeletonGraph.{graph-edges, item-edge, skeleton-graph}
 use Rattle.skel_compose.specs.Followers.{IsItemEnd}
 use Rattle.skel_decompose.proofs.Stepped.{ends-item, over-first, over-second}
-use Rattle.long_face.proofs.RowLemmas.{items-few}
+use Rattle.skel_compose.proofs.Found.{items-few}
 use Rattle.long_face.proofs.polygons.steps_of.Goals as goal
 
 pub overflow_cast-i-end : goal.overflow_cast-i-end

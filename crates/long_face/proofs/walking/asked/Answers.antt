@@ -9,7 +9,8 @@ use Rattle.skeletons.specs.Families.{skeleton_graph, system_at}
 use Rattle.long_face.specs.Numbers.{AreFaceNumbers}
 use Rattle.long_face.specs.Wanted.{on_wanted}
 use Rattle.face_weights.proofs.NodeCode.{row-numbers}
-use Rattle.long_face.proofs.RowLemmas.{items-few, numbers-places}
+use Rattle.skel_compose.proofs.Found.{items-few}
+use Rattle.long_face.proofs.RowLemmas.{numbers-places}
 use Rattle.long_face.proofs.RowsMade.{numbers-tell}
 use Rattle.long_face.proofs.Walked.{asked-first, asked-second, asked-none}
 use Rattle.long_face.proofs.walking.asked.Goals as goal

@@ -6,7 +6,8 @@ use Rattle.skeleton_faces.specs.Faces.{IsSkeletonDart}
 use Rattle.long_face.specs.Heaviest.{IsGreatest, number_in}
 use Rattle.long_face.specs.Ready.{NodeRows, AreRowsOf}
 use Rattle.long_face.specs.Settled.{IsBest}
-use Rattle.long_face.proofs.RowLemmas.{items-few, items-some, items-several}
+use Rattle.skel_compose.proofs.Found.{items-few}
+use Rattle.long_face.proofs.RowLemmas.{items-some, items-several}
 use Rattle.long_face.proofs.RowsMade.{known-ready}
 use Rattle.long_face.proofs.Walked.{greatest-top}
 use Rattle.long_face.proofs.walking.want_at_top.Goals as goal

@@ -7,7 +7,8 @@ use Rattle.face_weights.specs.Weights.{weight_of}
 use Rattle.long_face.specs.Heaviest.{IsHeaviest, number_in}
 use Rattle.long_face.specs.Ready.{NodeRows, AreRowsOf}
 use Rattle.long_face.specs.Walk.{IsAsked}
-use Rattle.long_face.proofs.RowLemmas.{items-few, items-several}
+use Rattle.skel_compose.proofs.Found.{items-few}
+use Rattle.long_face.proofs.RowLemmas.{items-several}
 use Rattle.long_face.proofs.RowsMade.{known-ready}
 use Rattle.long_face.proofs.Walked.{settled-none, settled-some}
 use Rattle.long_face.proofs.walking.want_below.Goals as goal

@@ -4,7 +4,7 @@ use Rattle.skeletons.proofs.NodeItems.{nth_item}
 use Rattle.skel_compose.specs.Homes.{IsHome}
 use Rattle.skel_compose.specs.Followers.{IsTable}
 use Rattle.skel_decompose.specs.Followers.{HasLasts}
-use Rattle.skel_decompose.proofs.Searched.{items-few}
+use Rattle.skel_compose.proofs.Found.{items-few}
 use Rattle.skel_decompose.proofs.Complete.{home-edge, home-read, ends-first, ends-second, lasts-more, lasts-pass}
 use Rattle.skel_decompose.proofs.filling.fill_from.Goals.{in-Real, in_default}
 use Rattle.skel_decompose.proofs.filling.fill_from.Goals as goal

@@ -1,7 +1,7 @@
 use Rattle.std.proofs.Common.{◌<◌, length, sym, ap, subst, arith}
 use Rattle.skel_compose.proofs.Back.{link-node}
 use Rattle.skel_decompose.specs.Neighbors.{AreNeighbors}
-use Rattle.skel_decompose.proofs.Searched.{items-few}
+use Rattle.skel_compose.proofs.Found.{items-few}
 use Rattle.skel_decompose.proofs.Nearby.{link-read, neighbors-put}
 use Rattle.skel_decompose.proofs.neighbors.note_neighbors.Goals.{in-Link, in_default}
 use Rattle.skel_decompose.proofs.neighbors.note_neighbors.Goals as goal

@@ -2,7 +2,8 @@ use Rattle.std.proofs.Common.{◌∙◌, List, length, Ok, Err, sym, ap, rules, 
 use Rattle.std.proofs.lemmas.List.Sorted.{answers_always}
 use Rattle.pair_split.specs.declared.components.Item.{Item}
 use Rattle.skeletons.proofs.NodeItems.{nth_item}
-use Rattle.skel_decompose.proofs.Searched.{searched, items-few, group-held, keys-rise}
+use Rattle.skel_compose.proofs.Found.{items-few}
+use Rattle.skel_decompose.proofs.Searched.{searched, group-held, keys-rise}
 use Rattle.skel_decompose.proofs.searching.item_beyond.Goals as goal
 
 pub overflow_cast-result : goal.overflow_cast-result

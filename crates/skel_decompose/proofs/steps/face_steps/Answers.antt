@@ -7,7 +7,7 @@ use Rattle.pair_split.specs.declared.components.Item.{Item}
 use Rattle.skeletons.specs.Families.{skeleton_graph, system_at}
 use Rattle.skeletons.proofs.NodeItems.{nth_item}
 use Rattle.skeleton_runs.proofs.SkeletonGraph.{graph-edges, item-edge, skeleton-graph}
-use Rattle.skel_decompose.proofs.Searched.{items-few}
+use Rattle.skel_compose.proofs.Found.{items-few}
 use Rattle.skel_decompose.proofs.Stepped.{over-first, over-second}
 use Rattle.skel_decompose.proofs.steps.face_steps.Goals as goal
 

@@ -1,6 +1,6 @@
 use Rattle.std.proofs.Common.{◌<◌, length, sym, ◌∙◌, subst, arith}
 use Rattle.pair_split.specs.Tutte.{node_at}
-use Rattle.skel_decompose.proofs.Searched.{items-few}
+use Rattle.skel_compose.proofs.Found.{items-few}
 use Rattle.skel_compose.proofs.Tables.{place-below}
 use Rattle.skel_decompose.proofs.Stepped.{next-is, follower-in, follower-dart}
 use Rattle.skel_decompose.proofs.steps.onward.Goals as goal

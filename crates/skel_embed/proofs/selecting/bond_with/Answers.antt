@@ -4,7 +4,8 @@ use Rattle.multigraph.specs.Graph.{max_edges}
 use Rattle.pair_split.specs.declared.components.Item.{Item}
 use Rattle.skeletons.specs.Items.{item_key}
 use Rattle.skel_compose.specs.Followers.{IsRow, HasTurns}
-use Rattle.skel_decompose.proofs.Searched.{items-few, keys-rise}
+use Rattle.skel_compose.proofs.Found.{items-few}
+use Rattle.skel_decompose.proofs.Searched.{keys-rise}
 use Rattle.skel_embed.proofs.FirstRows.{if-ok}
 use Rattle.skel_embed.proofs.Selected.{key-held, numbers-once, numbers-below, numbers-few, bond-changed}
 use Rattle.skel_embed.proofs.selecting.bond_with.Goals as goal
