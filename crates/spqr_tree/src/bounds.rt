@@ -1,4 +1,4 @@
-// Short lists of numbers.
+// The bounds of a node, as the walk around the tree notes them.
 
 ghost use Rattle.std.specs.Prelude.{◌≡◌, ◌∷◌, ◌++◌, [], IfOk};
 

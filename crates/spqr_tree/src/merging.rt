@@ -319,7 +319,7 @@ impl Merging {
         self.start(c)
     }
 
-    // The group in work is finished. The next one fills the memory of the stack.
+    // The group in work is finished. The memory of the stack, which is empty then, serves for the next one.
     fn finish(&mut self, alloc: Global, kind: Kind) -> Result<(), AllocError>
         ensures groups { IfOk result (λ _. self.new.groups
             ≡ self.old.groups ++ record { kind = kind; items = self.old.done } ∷ []) }
