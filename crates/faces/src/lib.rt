@@ -5,10 +5,10 @@
 // vertex counting one, and C components, V - E + F is at most 2C (Euler 1758, Heffter 1891), and the rotation system is
 // plane where it is 2C.
 //
-// `euler` counts the four numbers and says whether the rotation system is plane. `trace` lists the faces, each from its least
-// pair of a vertex and an edge on. Both take linear time, with vectors of their own and no recursion: they walk along each
-// face once and mark what they pass, and search each component once. Their contracts are exact; only running out of
-// memory has no cause in a clause. Darts as numbers are at home in multigraph.
+// `euler` counts the four numbers and says whether the rotation system is plane. `face_steps` has for each dart the next one of
+// its face, and `trace` lists the faces, each from its least pair of a vertex and an edge on. All take linear time, with vectors of
+// their own and no recursion: they walk along each face once and mark what they pass, and search each component once. Their
+// contracts are exact; only running out of memory has no cause in a clause. Darts as numbers are at home in multigraph.
 #![tactic(auto)]
 
 mod components;
@@ -29,4 +29,5 @@ pub use laws::{
 pub use lists::Faces;
 pub use multigraph::{dart_count, dart_from, head, tail, twin};
 pub use numbers::Euler;
+pub use steps::face_steps;
 pub use tracing::trace;

@@ -21,12 +21,9 @@ fn dart_onward(graph: &Graph, rotation: &Rotation, vertex: u32, edge: u32) -> u3
     dart_from(graph, vertex, rotation.succ(vertex, edge))
 }
 
-// For each dart the next one of its face.
-pub(crate) fn face_steps(
-    alloc: Global,
-    graph: &Graph,
-    rotation: &Rotation,
-) -> Result<Vec<u32>, AllocError>
+/// For each dart the next one of its face in the rotation system `rotation` of the graph: that by which the face goes on from the
+/// vertex at which the dart ends. In linear time. Fails only if memory runs out.
+pub fn face_steps(alloc: Global, graph: &Graph, rotation: &Rotation) -> Result<Vec<u32>, AllocError>
     requires { IsRotationSystem graph.now rotation.now }
     ensures { IfOk result (λ steps. AreFaceSteps graph.now rotation.now steps.items) }
 {

@@ -8,20 +8,21 @@ ghost use Rattle.rotations.specs.Rotation.{IsRotationSystem};
 ghost use Rattle.std.specs.Prelude.{◌<◌, ◌≡◌, IfOk, false, length, slice_index, ℕ};
 
 use crate::darts::{darts_in_order, pair_of};
-use crate::lists::{Face, Faces};
+use crate::lists::Faces;
 use crate::steps::face_steps;
-use multigraph::Graph;
+use multigraph::{FlatLists, Graph};
 use rotations::Rotation;
 use std::alloc::{AllocError, Global};
 
-// Marks the orbit of `start`, of which nothing is marked yet, and lists it: the walk along the images ends where it began.
+// Marks the orbit of `start`, of which nothing is marked yet, and makes `pairs` its list: the walk along the images ends where it
+// began.
 fn walk_orbit(
-    alloc: Global,
     graph: &Graph,
     images: &[u32],
     marks: &mut [bool],
     start: u32,
-) -> Result<Face, AllocError>
+    pairs: &mut Vec<(u32, u32)>,
+) -> Result<(), AllocError>
     requires permutation { IsPermutationBelow (dart_count graph.now) (slice_index images.now) }
     requires darts { length images.now ≡ dart_count graph.now }
     requires same_length { length marks.old ≡ dart_count graph.now }
@@ -31,17 +32,17 @@ fn walk_orbit(
     requires unmarked { is_marked marks.old start ≡ false }
     ensures marked { IfOk result (λ _. AddsOrbit (dart_count graph.now)
         (slice_index images.now) start marks.old marks.new) }
-    ensures listed { IfOk result (λ face. face ≡ orbit_pairs graph.now
+    ensures listed { IfOk result (λ _. pairs.new.items ≡ orbit_pairs graph.now
         (slice_index images.now) start) }
 {
-    let mut pairs = Vec::new(alloc);
+    pairs.clear();
     let mut place = start;
     while !marks[place as usize] {
         marks[place as usize] = true;
         pairs.push(pair_of(graph, place))?;
         place = images[place as usize];
     }
-    Ok(Face::of(pairs))
+    Ok(())
 }
 
 // The orbits, each from its least dart on, where nothing is marked yet: in the order of the darts, each that is found unmarked
@@ -52,19 +53,21 @@ fn list_orbits(
     images: &[u32],
     order: &[u32],
     marks: &mut [bool],
-) -> Result<Vec<Face>, AllocError>
+) -> Result<FlatLists<(u32, u32)>, AllocError>
     requires graph { IsGraph graph.now }
     requires permutation { IsPermutationBelow (dart_count graph.now) (slice_index images.now) }
     requires darts { length images.now ≡ dart_count graph.now }
     requires in_order { order.now ≡ darts_in_order graph.now }
     requires same_length { length marks.old ≡ dart_count graph.now }
     requires unmarked { (x : ℕ) → is_marked marks.old x ≡ false }
-    ensures { IfOk result (λ faces. faces.items ≡ orbit_lists graph.now (slice_index images.now)) }
+    ensures { IfOk result (λ faces. faces ≡ orbit_lists graph.now (slice_index images.now)) }
 {
-    let mut faces = Vec::new(alloc);
+    let mut faces = FlatLists::new(alloc);
+    let mut pairs = Vec::new(alloc);
     for start in order {
         if !marks[*start as usize] {
-            faces.push(walk_orbit(alloc, graph, images, marks, *start)?)?;
+            walk_orbit(graph, images, marks, *start, &mut pairs)?;
+            faces.push(&pairs)?;
         }
     }
     Ok(faces)

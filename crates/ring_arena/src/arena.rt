@@ -152,6 +152,15 @@ impl Rings {
             }
         }
     }
+
+    /// Reverses every ring: after each node comes the node that was before it. In one pass over the nodes.
+    pub fn reverse_all(&mut self)
+        ensures { AreNow self.old self.new (slice_index self.old.prev) }
+    {
+        for k in 0..self.nodes.len() {
+            let _ = turn(&mut self.nodes, k);
+        }
+    }
 }
 
 impl fmt::Debug for Rings {

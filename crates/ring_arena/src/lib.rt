@@ -5,7 +5,8 @@
 // numbers, the node after each node and the node before it. Each of them is a permutation of the nodes, and each is the inverse of the
 // other, after every call; a ring is an orbit.
 // One step changes the rings: the nodes after two nodes are exchanged. It joins two rings into one or splits one into two, in
-// constant time; taking a node out and putting one in are such steps. A ring is reversed in as many steps as it has nodes.
+// constant time; taking a node out and putting one in are such steps. A ring is reversed in as many steps as it has nodes, and all
+// rings in one pass over the nodes.
 // Only `Rings::new` takes memory, and the block is freed when the rings are dropped.
 #![tactic(auto)]
 

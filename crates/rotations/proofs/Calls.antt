@@ -1,9 +1,9 @@
 -- What the calls that change a rotation system leave, by what the steps of their bodies say.
-use Rattle.std.proofs.Common.{◌≡◌, ◌≢◌, ℕ, ◌+◌, ◌*◌, ◌/◌, ◌<◌, ◌≤◌, true, List, [], ◌∷◌, ◌++◌, length, get_or, reverse, refl, sym, ap, ◌∙◌, subst, arith}
+use Rattle.std.proofs.Common.{◌≡◌, ◌≢◌, ℕ, ◌+◌, ◌*◌, ◌/◌, ◌<◌, true, List, [], ◌∷◌, ◌++◌, length, get_or, reverse, refl, sym, ap, ◌∙◌, subst, arith}
 use Rattle.std.specs.List.{Contains}
 use Rattle.std.proofs.lemmas.List.{length-map, get_or-map, ext_get_or}
 use Rattle.permutations.specs.Members.{is_member}
-use Rattle.permutations.specs.Cyclic.{first_or, successor, predecessor, from_least}
+use Rattle.permutations.specs.Cyclic.{successor, predecessor, from_least}
 use Rattle.permutations.specs.Exchange.{exchange}
 use Rattle.permutations.proofs.Members.{member-head, member-append_right}
 use Rattle.permutations.proofs.Successor.{predecessor-member, successor-predecessor}
@@ -16,11 +16,11 @@ use Rattle.rotations.specs.Runs.{IsParted, IsOutside, IsRunMoved, IsRunTurned, I
 use Rattle.rotations.specs.declared.rings.Ring.{Ring}
 use Rattle.rotations.proofs.Membership.{member-from_contains}
 use Rattle.rotations.proofs.Steps.{order-ring, kept-dart, kept-next_in}
-use Rattle.rotations.proofs.Reorder.{length-turns}
+use Rattle.rotations.proofs.Reorder.{new-order, new-rings, new-vertices}
 use Rattle.rotations.proofs.Ends.{leave-ends}
 use Rattle.rotations.proofs.Runs.{Parting, parting, first-in, last-in, in-order, last-cut, before-run, before-whole, before-is_last}
 use Rattle.rotations.proofs.Moves.{IsMadeAt, run-moved}
-use Rattle.rotations.proofs.Turning.{round-turned, whole-turned, run-turned}
+use Rattle.rotations.proofs.Turning.{each-reversed, whole-turned, run-turned}
 
 -- the edges that a call names are round the vertex
 pub outside-first : (o : List ℕ) (first last edge : ℕ) → IsOutside o first last edge → Contains o first
@@ -195,43 +195,22 @@ call-turned tails old rings k r is v first last b d₁ d₂ d₃ t₁ t₂ t₃ 
     g₃ : d₃ ≡ dart_at tails v first
     g₃ = f₃ ∙ ap (λ (t : List ℕ). dart_at t v first) e₃
 
--- a vertex has a ring
-pub ring-there : (next : List ℕ) (rings : List Ring) (r : List (List ℕ)) (v : ℕ) → orders next rings ≡ r → v < length r → v < length rings
-ring-there next rings r v is l = omega (arith, ap length is, length-map rings (λ (ring : Ring). turns next ring.first ring.degree))
-
--- the whole round of a vertex turned
-pub record IsRoundTurned (tails : List ℕ) (new : Links) (rings : List Ring) (r : List (List ℕ)) (v : ℕ) : Type 0 where
+-- all the rings turned
+pub record IsMirrored (tails : List ℕ) (new : Links) (rings : List Ring) (r : List (List ℕ)) : Type 0 where
   pub kept : AreRings tails new.next new.prev rings
-  pub turned : order_at (orders new.next rings) v ≡ from_least (reverse (order_at r v))
-  pub elsewhere : IsKeptElsewhere r (orders new.next rings) v
+  pub mirrored : orders new.next rings ≡ mirror_image r
 
-pub call-round : (tails : List ℕ) (old : Links) (rings : List Ring) → AreRings tails old.next old.prev rings → (r : List (List ℕ)) → orders old.next rings ≡ r → (v : ℕ) (ring : Ring) (new : Links) → v < length rings → ring ≡ get_or rings v ring → 0 < ring.degree
-    → AreInverse old → AreNow old new (reversed_at old ring.first) → IsRoundTurned tails new rings r v
-call-round tails old rings k r is v ring new l at some inv now = subst (λ (q : List (List ℕ)). IsRoundTurned tails new rings q v) is (record { kept = made.kept; turned = made.here; elsewhere = made.elsewhere })
+pub call-mirrored : (tails : List ℕ) (old : Links) (rings : List Ring) → AreRings tails old.next old.prev rings → (r : List (List ℕ)) → orders old.next rings ≡ r → (new : Links) → AreNow old new (λ d. get_or old.prev d 0) → IsMirrored tails new rings r
+call-mirrored tails old rings k r is new now = subst (λ (q : List (List ℕ)). IsMirrored tails new rings q) is (record {
+  kept = new-rings tails old new rings k now.inverse now.count (λ w. reverse (order_at (orders old.next rings) w)) (each-reversed tails old rings k new now);
+  mirrored = ext_get_or [] (orders new.next rings) (mirror_image (orders old.next rings)) (same ∙ sym (length-map (orders old.next rings) (λ order. from_least (reverse order)))) each;
+})
   where
-    walk : order_at (orders old.next rings) v ≡ turns old.next ring.first ring.degree
-    walk = get_or-map (λ (x : Ring). turns old.next x.first x.degree) rings v ring [] l ∙ ap (λ (x : Ring). turns old.next x.first x.degree) (sym at)
+    same : length (orders new.next rings) ≡ length (orders old.next rings)
+    same = new-vertices tails old new rings k now.inverse now.count (λ w. reverse (order_at (orders old.next rings) w)) (each-reversed tails old rings k new now)
 
-    first_there : is_member (first_or 0 (order_at (orders old.next rings) v)) (order_at (orders old.next rings) v) ≡ true
-    first_there = there (order_at (orders old.next rings) v) (omega (arith, ap length walk, length-turns old.next ring.first ring.degree))
-      where
-        there : (o : List ℕ) → 0 < length o → is_member (first_or 0 o) o ≡ true
-        there [] m = absurd (omega arith)
-        there (x ∷ xs) m = member-head x xs
-
-    begins : ring.first ≡ dart_at tails v (first_or 0 (order_at (orders old.next rings) v))
-    begins = ap (λ (x : Ring). x.first) at ∙ k.begins v ring l (subst (λ (x : Ring). 0 < x.degree) at some)
-
-    made : IsMadeAt tails old new rings v (reverse (order_at (orders old.next rings) v))
-    made = round-turned tails old rings k inv v l (first_or 0 (order_at (orders old.next rings) v)) new first_there (subst (λ (z : ℕ). AreNow old new (reversed_at old z)) begins now)
-
--- the orders of the vertices below v are reversed, and the others as they were
-pub record AreMirrored (old new : List (List ℕ)) (v : ℕ) : Type 0 where
-  pub vertices : length new ≡ length old
-  pub mirrored : (w : ℕ) → w < v → order_at new w ≡ from_least (reverse (order_at old w))
-  pub others : (w : ℕ) → v ≤ w → order_at new w ≡ order_at old w
-
-pub mirrored-all : (old new : List (List ℕ)) (v : ℕ) → length old ≤ v → AreMirrored old new v → new ≡ mirror_image old
-mirrored-all old new v l m =
-    ext_get_or [] new (mirror_image old) (m.vertices ∙ sym (length-map old (λ order. from_least (reverse order))))
-    (λ w n. m.mirrored w (omega (arith, m.vertices)) ∙ sym (get_or-map (λ order. from_least (reverse order)) old w [] [] (omega (arith, m.vertices))))
+    each : (w : ℕ) → w < length (orders new.next rings) → get_or (orders new.next rings) w [] ≡ get_or (mirror_image (orders old.next rings)) w []
+    each w n =
+        let l : w < length rings = omega (arith, length-map rings (λ (ring : Ring). turns new.next ring.first ring.degree)) in
+        new-order tails old new rings k now.inverse now.count (λ v. reverse (order_at (orders old.next rings) v)) (each-reversed tails old rings k new now) w l
+        ∙ sym (get_or-map (λ order. from_least (reverse order)) (orders old.next rings) w [] [] (omega (arith, same)))

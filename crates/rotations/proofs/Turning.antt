@@ -5,32 +5,40 @@ use Rattle.std.proofs.lemmas.List.{reverse-append}
 use Rattle.std.proofs.lemmas.List.Sorted.{IsPermutation-trans, IsPermutation-append_comm}
 use Rattle.std.proofs.lemmas.Bool.{both_ways}
 use Rattle.permutations.specs.Members.{is_member, is_distinct}
-use Rattle.permutations.specs.Cyclic.{first_or, successor, IsTurn}
+use Rattle.permutations.specs.Cyclic.{first_or, successor, predecessor, IsTurn}
 use Rattle.permutations.specs.Exchange.{exchange}
 use Rattle.permutations.proofs.Members.{member-head, member-append_left, member-append_right, member-append_cases, member-reverse, distinct-append_left, distinct-append_apart, distinct-reverse}
+use Rattle.permutations.proofs.Successor.{predecessor-member, successor-predecessor}
 use Rattle.permutations.proofs.Arrangements.{permutation-distinct}
 use Rattle.ring_arena.specs.Links.{Links, AreInverse, AreNow, reversed_at}
 use Rattle.rotations.specs.Rotation.{order_at}
 use Rattle.rotations.specs.Rings.{dart_at, orders, AreRings}
 use Rattle.rotations.specs.Runs.{IsParted}
 use Rattle.rotations.specs.declared.rings.Ring.{Ring}
+use Rattle.rotations.proofs.Reorder.{IsReordered}
 use Rattle.rotations.proofs.Darts.{dart-edge, dart-injective}
 use Rattle.rotations.proofs.Cycles.{Chain, chain-join, chain-ext, cycle-from, cycle-to, exchange-kept, links-exchanged, run-reversed, others-kept}
 use Rattle.rotations.proofs.Runs.{parts-distinct, in-order, first-in, first-run, turned-permutation}
 use Rattle.rotations.proofs.Moves.{IsMadeAt, made-at, node, elsewhere, chain-round, reordered, cut-out, cut-stays}
 
-module _ (tails : List ℕ) (old : Links) (rings : List Ring) (k : AreRings tails old.next old.prev rings) (inv : AreInverse old) (v : ℕ) (l : v < length rings) where
-  -- the whole round turned
-  pub round-turned : (x : ℕ) (new : Links) → is_member x (order_at (orders old.next rings) v) ≡ true → AreNow old new (reversed_at old (dart_at tails v x)) → IsMadeAt tails old new rings v (reverse (order_at (orders old.next rings) v))
-  round-turned x new m now =
-      made-at tails old rings k v l new (reverse (order_at (orders old.next rings) v)) now.inverse now.count
-      (record {
-        distinct = distinct-reverse (order_at (orders old.next rings) v) (k.rounds v l).distinct;
-        members = λ e. member-reverse e (order_at (orders old.next rings) v);
-        forth = λ e t. run-reversed (dart_at tails v) (dart-edge tails v) old new inv (order_at (orders old.next rings) v) (k.rounds v l).distinct (node tails old rings k v l) (k.linked v l).forth x m now e (sym (member-reverse e (order_at (orders old.next rings) v)) ∙ t);
-      })
-      (λ d w n. others-kept (dart_at tails v) (dart-edge tails v) old new inv (order_at (orders old.next rings) v) (k.rounds v l).distinct (node tails old rings k v l) (k.linked v l).forth x m now d w (λ e t s. elsewhere tails old rings k v l d e t n (sym s)))
+module _ (tails : List ℕ) (old : Links) (rings : List Ring) (k : AreRings tails old.next old.prev rings) where
+  -- before the dart of an edge is that of its predecessor
+  dart-before : (w : ℕ) → w < length rings → (e : ℕ) → is_member e (order_at (orders old.next rings) w) ≡ true → get_or old.prev (dart_at tails w e) 0 ≡ dart_at tails w (predecessor (order_at (orders old.next rings) w) e)
+  dart-before w l e m =
+      ap (λ (x : ℕ). get_or old.prev (dart_at tails w x) 0) (sym (successor-predecessor (order_at (orders old.next rings) w) e (k.rounds w l).distinct))
+      ∙ (k.linked w l).back (predecessor (order_at (orders old.next rings) w) e) (predecessor-member (order_at (orders old.next rings) w) e m)
 
+  -- where next and prev are exchanged, the round of each vertex is turned
+  pub each-reversed : (new : Links) → AreNow old new (λ d. get_or old.prev d 0) → (w : ℕ) → w < length rings → IsReordered tails w new (order_at (orders old.next rings) w) (reverse (order_at (orders old.next rings) w))
+  each-reversed new now w l = record {
+    distinct = distinct-reverse (order_at (orders old.next rings) w) (k.rounds w l).distinct;
+    members = λ e. member-reverse e (order_at (orders old.next rings) w);
+    forth = λ e t.
+        let m : is_member e (order_at (orders old.next rings) w) ≡ true = sym (member-reverse e (order_at (orders old.next rings) w)) ∙ t in
+        now.behind (dart_at tails w e) (node tails old rings k w l e m) ∙ dart-before w l e m;
+  }
+
+module _ (tails : List ℕ) (old : Links) (rings : List Ring) (k : AreRings tails old.next old.prev rings) (inv : AreInverse old) (v : ℕ) (l : v < length rings) where
   -- a run that is the whole round turned
   pub whole-turned : (first last : ℕ) (run : List ℕ) (new : Links) → IsParted (order_at (orders old.next rings) v) first last run [] → AreNow old new (reversed_at old (dart_at tails v first)) → IsMadeAt tails old new rings v (reverse run ++ [])
   whole-turned first last run new p now =

@@ -1,8 +1,8 @@
 // Rotation systems, kept as rings of darts.
 
-ghost use Rattle.std.specs.Prelude.{◌≡◌, ℕ, ◌<◌, ◌↔◌, List, length, map, reverse, slice_index, IfOk, IfErr, IsTrue};
+ghost use Rattle.std.specs.Prelude.{◌≡◌, ℕ, ◌<◌, ◌↔◌, List, length, map, slice_index, IfOk, IfErr, IsTrue};
 ghost use Rattle.std.specs.List.{Contains};
-ghost use Rattle.permutations.specs.Cyclic.{successor, predecessor, from_least};
+ghost use Rattle.permutations.specs.Cyclic.{successor, predecessor};
 ghost use Rattle.rotations.specs.Rotation.{order_at, IsRotationSystem};
 ghost use Rattle.rotations.specs.Rings.{StandOnRings};
 ghost use Rattle.rotations.specs.Runs.{IsOutside, IsRunMoved, IsRunTurned, IsKeptElsewhere, mirror_image};
@@ -192,23 +192,7 @@ impl Rotation {
     pub fn mirror(&mut self)
         ensures { self.new ≡ mirror_image self.old }
     {
-        let count = self.vertex_count();
-        for v in 0..count {
-            self.turn_round(v);
-        }
-    }
-
-    // Reverses the cyclic order of v.
-    fn turn_round(&mut self, v: u32)
-        requires { v < length self.old }
-        ensures turned { order_at self.new v ≡ from_least (reverse (order_at self.old v)) }
-        ensures elsewhere { IsKeptElsewhere self.old self.new v }
-    {
-        self.nodes.keeps_rings();
-        let ring = self.frame.rings[v as usize];
-        if ring.degree > 0 {
-            self.nodes.reverse(ring.first);
-        }
+        self.nodes.reverse_all();
     }
 
     /// A copy. Fails only if memory runs out.

@@ -11,8 +11,8 @@ use Rattle.pair_split.specs.declared.components.Piece.{Piece}
 use Rattle.pair_split.specs.declared.components.Comp.{Comp}
 use Rattle.pair_split.proofs.Elements.{contains-none}
 use Rattle.pair_split.proofs.Links.{no_piece}
-use Rattle.spqr_tree.specs.Merged.{IsGroup, NoneAlike, AreGroups}
-use Rattle.spqr_tree.specs.Merging.{AreLive, MergingState, group_of, IsLed, AreSplit, AreFinished, IsMerging, IsResting, KeepsLed, IsStarted}
+use Rattle.spqr_tree.specs.Merged.{IsGroup, NoneAlike}
+use Rattle.spqr_tree.specs.Merging.{AreLive, MergingState, group_of, IsLed, AreSplit, AreFinished, IsMerging, IsResting, IsStarted}
 use Rattle.spqr_tree.proofs.LiveSteps.{live-taken}
 use Rattle.spqr_tree.proofs.JoinedMerging.{group-kept, group-starts}
 use Rattle.spqr_tree.proofs.JoinedApart.{alike-apart}
@@ -26,9 +26,6 @@ reverse-twice (q ∷ pieces) = ap reverse (reverse-append (q ∷ []) pieces) ∙
 module _ (comps : List Comp) (split : AreSplit comps) where
   -- a group is begun
   module _ (s : MergingState) (r : IsResting comps s) (few : length s.groups < absent) (c : ℕ) (l : c < length comps) (none : group_of s.lead c ≡ absent) (next : MergingState) (started : IsStarted comps s next c) where
-    pub started-kept : KeepsLed s.lead next.lead
-    started-kept x h = started.kept x (λ e. h (ap (group_of s.lead) e ∙ none))
-
     pub started-led : IsLed next.lead c
     started-led z = absurd (omega (arith, few, started.into, z))
 
@@ -128,7 +125,3 @@ module _ (comps : List Comp) (split : AreSplit comps) where
       none_done = refl;
       none_left = refl;
     })
-
-  -- when all components are in groups
-  pub resting-groups : (s : MergingState) → IsResting comps s → ((x : ℕ) → x < length comps → IsLed s.lead x) → AreGroups comps (group_of s.lead) s.groups
-  resting-groups s r all = record { into = λ x l. r.led x (all x l); each = r.finished.each }

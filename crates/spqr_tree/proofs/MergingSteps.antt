@@ -1,7 +1,7 @@
 -- Steps of putting components into groups.
-use Rattle.std.proofs.Common.{◌≡◌, ◌≢◌, ℕ, ◌+◌, ◌<◌, ◌≤◌, ◌⊎◌, ◌==◌, ◌&&◌, inl, inr, Bool, true, cond, List, [], ◌∷◌, ◌++◌, reverse, length, take, slice_index_or, refl, sym, ap, ◌∙◌, subst, arith, Contains}
+use Rattle.std.proofs.Common.{◌≡◌, ◌≢◌, ℕ, ◌+◌, ◌<◌, ◌≤◌, ◌⊎◌, ◌==◌, ◌&&◌, inl, inr, Bool, true, cond, List, [], ◌∷◌, ◌++◌, reverse, length, slice_index_or, refl, sym, ap, ◌∙◌, subst, arith, Contains}
 use Rattle.std.proofs.lemmas.Bool.{cases_eq, eq-eqb, ne_eqb}
-use Rattle.std.proofs.lemmas.List.{get_or_default, take_more, reverse-append, append_assoc}
+use Rattle.std.proofs.lemmas.List.{get_or_default, reverse-append, append_assoc}
 use Rattle.std.proofs.lemmas.List.Elements.{Contains-append_right, Contains-append_left, Contains-append_cases}
 use Rattle.permutations.specs.Count.{sum_below}
 use Rattle.pair_split.specs.Split.{component_at, items_of, item_at}
@@ -29,12 +29,6 @@ link_number (Link j) = j
 -- equal links lead to the same component
 pub same-link : (i j : ℕ) → Link i ≡ Link j → i ≡ j
 same-link i j e = ap link_number e
-
--- one piece more
-pub number-more : (t : Piece → Bool) (pieces : List Piece) (i : ℕ) → i < length pieces → how_many t (take (i + 1) pieces) ≡ how_many t (take i pieces) + cond (t (slice_index_or pieces i no_piece)) 1 0
-number-more t pieces i l =
-    let split : how_many t (take (i + 1) pieces) ≡ how_many t (take i pieces ++ slice_index_or pieces i no_piece ∷ []) = ap (how_many t) (take_more pieces i no_piece l) in
-    omega (arith, split, number-append t (take i pieces) (slice_index_or pieces i no_piece ∷ []), number-cons t (slice_index_or pieces i no_piece) [])
 
 -- as many count backwards
 pub number-reverse : (t : Piece → Bool) (pieces : List Piece) → how_many t (reverse pieces) ≡ how_many t pieces

@@ -7,7 +7,7 @@ use Rattle.faces.proofs.tracing.walk_orbit.Goals as goal
 
 pub loop-marks-init : goal.loop-marks-init
 loop-marks-init c = (
-  rw c.new-pairs.ensures.items (traced-none c.args.graph.now (slice_index c.args.images.now) c.args.marks.now c.args.start),
+  rw c.clear.ensures.items (traced-none c.args.graph.now (slice_index c.args.images.now) c.args.marks.now c.args.start),
   c.requires.start_in,
 )
 
@@ -26,5 +26,5 @@ returns-clause-marked c =
 
 pub returns-clause-listed : goal.returns-clause-listed
 returns-clause-listed c =
-    c.of.ensures ∙ traced-all (dart_count c.args.graph.now) c.args.graph.now (slice_index c.args.images.now) c.requires.permutation c.args.marks.now c.loop-marks.marks c.args.start c.loop-marks.place c.loop-marks.pairs.items
+    traced-all (dart_count c.args.graph.now) c.args.graph.now (slice_index c.args.images.now) c.requires.permutation c.args.marks.now c.loop-marks.marks c.args.start c.loop-marks.place c.loop-marks.pairs.items
     c.loop-marks.invariant.0 c.requires.same_length c.requires.start_in c.requires.whole_orbits c.requires.unmarked c.loop-marks-test.false

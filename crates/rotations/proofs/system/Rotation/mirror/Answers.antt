@@ -1,6 +1,9 @@
-use Rattle.std.proofs.Common.{arith}
-use Rattle.rotations.proofs.Calls.{mirrored-all}
+-- The rings follow the reversed orders.
+use Rattle.rotations.proofs.Calls.{call-mirrored}
 use Rattle.rotations.proofs.system.Rotation.mirror.Goals as goal
 
 pub returns : goal.returns
-returns c = mirrored-all c.args.self.now c.loop-v.self c.loop-v.v (omega (arith, c.loop-v-test.false, c.vertex_count-count.ensures)) c.loop-v.invariant
+returns c = (call-mirrored c.self.inside.frame.value.tails.items c.self.inside.nodes c.self.inside.frame.value.rings.items c.self.invariant c.args.self.now c.self.view_is c.reverse_all.new.self c.reverse_all.ensures).mirrored
+
+pub invariant_of-self : goal.invariant_of-self
+invariant_of-self c = (call-mirrored c.self.inside.frame.value.tails.items c.self.inside.nodes c.self.inside.frame.value.rings.items c.self.invariant c.args.self.now c.self.view_is c.reverse_all.new.self c.reverse_all.ensures).kept
