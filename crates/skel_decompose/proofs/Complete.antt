@@ -1,13 +1,15 @@
 -- A table that has what follows the last edges of all runs has what follows each item.
-use Rattle.std.proofs.Common.{◌≡◌, ℕ, ◌+◌, ◌<◌, ◌==◌, inl, inr, true, List, length, slice_index_or, sym, ap, ◌∙◌, subst, arith, eq-eqb, eqb-true}
+use Rattle.std.proofs.Common.{◌≡◌, ℕ, ◌+◌, ◌*◌, ◌/◌, ◌<◌, ◌==◌, inl, inr, true, List, length, get_or, slice_index_or, sym, ap, ◌∙◌, subst, arith, eq-eqb, eqb-true}
 use Rattle.std.proofs.lemmas.Bool.{cases_eq, or_cases, or_left, or_right}
 use Rattle.permutations.specs.Cyclic.{successor}
 use Rattle.permutations.specs.Members.{is_member}
 use Rattle.permutations.proofs.Chains.{chain-test}
-use Rattle.multigraph.specs.Graph.{Multigraph, edge_count, ends_of, is_end}
+use Rattle.multigraph.specs.Graph.{Multigraph, IsGraph, edge_count, ends_of, is_end}
 use Rattle.multigraph.proofs.OtherEnd.{end-in}
 use Rattle.rotations.specs.Rotation.{order_at}
-use Rattle.faces.proofs.DartLemmas.{order-distinct, order-member}
+use Rattle.faces.specs.Steps.{AreFaceSteps}
+use Rattle.faces.proofs.DartLemmas.{dart_from-edge, order-distinct, order-member}
+use Rattle.faces.proofs.FaceSteps.{face_step-first, face_step-second}
 use Rattle.pair_split.specs.Tutte.{Node, components, node_at, node_item, has_in_group, group, IsTutte}
 use Rattle.pair_split.specs.declared.components.Item.{Item}
 use Rattle.pair_split.specs.declared.components.What.TheVariants.{Real}
@@ -92,6 +94,15 @@ ends-first g e a q = or_left ((ends_of g e).0 == a) ((ends_of g e).1 == a) (eq-e
 
 pub ends-second : (g : Multigraph) (e a : ℕ) → a ≡ (ends_of g e).1 → is_end g a e ≡ true
 ends-second g e a q = or_right ((ends_of g e).0 == a) ((ends_of g e).1 == a) (eq-eqb (ends_of g e).1 a (sym q))
+
+-- the edge after an edge around one of its ends is that of the dart by which a face goes on that arrives there
+pub step-first : (g : Multigraph) (r : List (List ℕ)) (steps : List ℕ) → IsGraph g → AreFaceSteps g r steps → (e a : ℕ) → e < edge_count g → a ≡ (ends_of g e).0 → get_or steps (2 * e + 1) 0 / 2 ≡ successor (order_at r a) e
+step-first g r steps ok s e a l q =
+    ap (λ (d : ℕ). d / 2) (s.each (2 * e + 1) (omega arith) ∙ face_step-second g r e ok l) ∙ dart_from-edge g (ends_of g e).0 (successor (order_at r (ends_of g e).0) e) ∙ ap (λ (v : ℕ). successor (order_at r v) e) (sym q)
+
+pub step-second : (g : Multigraph) (r : List (List ℕ)) (steps : List ℕ) → AreFaceSteps g r steps → (e b : ℕ) → e < edge_count g → b ≡ (ends_of g e).1 → get_or steps (2 * e) 0 / 2 ≡ successor (order_at r b) e
+step-second g r steps s e b l q =
+    ap (λ (d : ℕ). d / 2) (s.each (2 * e) (omega arith) ∙ face_step-first g r e) ∙ dart_from-edge g (ends_of g e).1 (successor (order_at r (ends_of g e).1) e) ∙ ap (λ (v : ℕ). successor (order_at r v) e) (sym q)
 
 -- the last edges of one item more
 module _ (g : Multigraph) (nodes : List Node) (r : List (List ℕ)) (family : List (List (List ℕ))) (k n : ℕ) (old : List (List ℕ)) (lasts : HasLasts g nodes r family k n old) where

@@ -1,7 +1,7 @@
 -- How far a table of what follows each item has what a rotation system of the block gives.
 use Rattle.std.specs.Prelude.{◌≡◌, ℕ, ◌<◌, ◌⊎◌, true, List, length, map}
 use Rattle.permutations.specs.Cyclic.{successor}
-use Rattle.multigraph.specs.Graph.{Multigraph, is_end, numbers_below, IsWithinLimits}
+use Rattle.multigraph.specs.Graph.{Multigraph, edge_count, is_end, numbers_below, IsWithinLimits}
 use Rattle.rotations.specs.Rotation.{order_at, IsRotationSystem}
 use Rattle.pair_split.specs.Split.{is_beyond}
 use Rattle.pair_split.specs.Tutte.{Node, components, node_at, node_item, group}
@@ -18,6 +18,13 @@ pub record IsInRuns (g : Multigraph) (nodes : List Node) (r : List (List ℕ)) :
   pub limits : IsWithinLimits g
   pub system : IsRotationSystem g r
   pub runs : IsContiguous nodes r
+
+-- edge `next` follows edge e around v, one of its ends
+pub record IsStep (g : Multigraph) (nodes : List Node) (r : List (List ℕ)) (v e next : ℕ) : Type 0 where
+  pub runs : IsInRuns g nodes r
+  pub edge : e < edge_count g
+  pub end : is_end g v e ≡ true
+  pub follows : next ≡ successor (order_at r v) e
 
 -- the family that r follows
 pub record IsFamily (nodes : List Node) (r : List (List ℕ)) (family : List (List (List ℕ))) : Type 0 where

@@ -1,6 +1,7 @@
 // The table filled by walks from all edges.
 
 ghost use Rattle.std.specs.Prelude.{◌+◌, ◌<◌, List, ℕ, length, IfOk};
+ghost use Rattle.faces.specs.Steps.{AreFaceSteps};
 ghost use Rattle.skel_compose.specs.Homes.{HasHomes};
 ghost use Rattle.skel_compose.specs.Followers.{IsTable, HasFollowers};
 ghost use Rattle.skel_decompose.specs.Followers.{IsInRuns, IsFamily, HasLasts};
@@ -10,6 +11,7 @@ use crate::lists::FlatLists;
 use crate::neighbors::neighbors_of;
 use crate::table::blank_table;
 use crate::walking::walk;
+use faces::face_steps;
 use multigraph::Graph;
 use pair_split::What;
 use rotations::Rotation;
@@ -21,30 +23,55 @@ use std::alloc::{AllocError, Global};
 fn fill_from(
     g: &Graph,
     tree: &Tree,
-    r: &Rotation,
+    steps: &[u32],
     homes: &[(u32, u32)],
     neighbors: &[Option<(u32, u32)>],
     k: u32,
     table: &mut FlatLists,
 )
-    requires runs { IsInRuns g.now tree.now r.now }
+    requires steps { (r : List (List ℕ)) × IsInRuns g.now tree.now r × AreFaceSteps g.now r steps.now }
     requires homes { HasHomes g.now tree.now (length tree.now) 0 homes.now }
     requires neighbors { AreNeighbors tree.now neighbors.now }
     requires node { k < length tree.now }
     requires table { IsTable tree.now table.old }
     ensures table { IsTable tree.now table.new }
-    ensures lasts { (family : List (List (List ℕ))) → IsFamily tree.now r.now family
-        → HasLasts g.now tree.now r.now family k 0 table.old
-        → HasLasts g.now tree.now r.now family (k + 1) 0 table.new }
+    ensures lasts { (r : List (List ℕ)) (family : List (List (List ℕ))) → IsInRuns g.now tree.now r
+        → AreFaceSteps g.now r steps.now → IsFamily tree.now r family
+        → HasLasts g.now tree.now r family k 0 table.old
+        → HasLasts g.now tree.now r family (k + 1) 0 table.new }
 {
     let items = tree.items(k);
     for i in 0..items.len() as u32 {
         if let What::Real(e) = items[i as usize].what {
             let (a, b) = g.ends(e);
-            walk(tree, r, homes, neighbors, table, (k, i), a, e);
-            walk(tree, r, homes, neighbors, table, (k, i), b, e);
+            let after_a = steps[2 * e as usize + 1] / 2;
+            let after_b = steps[2 * e as usize] / 2;
+            walk(tree, homes, neighbors, table, (k, i), a, e, after_a);
+            walk(tree, homes, neighbors, table, (k, i), b, e, after_b);
         }
     }
+}
+
+/// What `followers` returns for the rotation system with these face steps (`faces::face_steps`).
+pub fn followers_by_steps(
+    alloc: Global,
+    g: &Graph,
+    tree: &Tree,
+    steps: &[u32],
+) -> Result<FlatLists, AllocError>
+    requires steps { (r : List (List ℕ)) × IsInRuns g.now tree.now r × AreFaceSteps g.now r steps.now }
+    ensures table { IfOk result (λ table. IsTable tree.now table) }
+    ensures followers { IfOk result (λ table. (r : List (List ℕ)) (family : List (List (List ℕ)))
+        → IsInRuns g.now tree.now r → AreFaceSteps g.now r steps.now → IsFamily tree.now r family
+        → HasFollowers tree.now family table) }
+{
+    let homes = homes_of(alloc, g, tree)?;
+    let neighbors = neighbors_of(alloc, tree)?;
+    let mut table = blank_table(alloc, tree)?;
+    for k in 0..tree.node_count() {
+        fill_from(g, tree, steps, &homes, &neighbors, k, &mut table);
+    }
+    Ok(table)
 }
 
 /// What follows each item of each node around both of its ends, in the family that a rotation system of the block follows: a list for each
@@ -61,11 +88,6 @@ pub fn followers(
     ensures followers { IfOk result (λ table. (family : List (List (List ℕ)))
         → IsFamily tree.now r.now family → HasFollowers tree.now family table) }
 {
-    let homes = homes_of(alloc, g, tree)?;
-    let neighbors = neighbors_of(alloc, tree)?;
-    let mut table = blank_table(alloc, tree)?;
-    for k in 0..tree.node_count() {
-        fill_from(g, tree, r, &homes, &neighbors, k, &mut table);
-    }
-    Ok(table)
+    let steps = face_steps(alloc, g, r)?;
+    followers_by_steps(alloc, g, tree, &steps)
 }

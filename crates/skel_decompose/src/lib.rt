@@ -7,8 +7,9 @@
 // of its ends, writes what follows into a table. Every item of every node is written once at each of its ends: there the last edge
 // of its run is followed by one of another group, or the item is an edge that is alone at the vertex.
 //
-// `decompose` gives the one family that a rotation system follows. Where its members need not be made, `followers` gives the table,
-// `member_of` one member, and `face_steps` the face steps of one member after the other. All fail only if memory runs out. All
+// `decompose` gives the one family that a rotation system follows. Where its members need not be made, `followers` gives the table
+// (`followers_by_steps`, where the face steps of the rotation system are known), `member_of` one member, and `face_steps` the face
+// steps of one member after the other. All fail only if memory runs out. All
 // walks together take as many steps as the skeletons have items, twice, and each step takes a look at where an edge is, or a
 // binary search in a node. Nothing recurses. The lists of all nodes are kept as one (`FlatLists`).
 //
@@ -33,7 +34,7 @@ mod table;
 mod walking;
 
 pub use decomposing::decompose;
-pub use filling::followers;
+pub use filling::{followers, followers_by_steps};
 pub use lists::{FlatLists, renew};
 pub use members::member_of;
 pub use steps::face_steps;

@@ -5,7 +5,7 @@ ghost use Rattle.multigraph.specs.Graph.{Multigraph, IsWithinLimits};
 ghost use Rattle.skeletons.specs.Items.{IsBlockTree};
 ghost use Rattle.skel_compose.specs.Followers.{IsTable};
 
-use crate::lists::{FlatLists, renew};
+use crate::lists::FlatLists;
 use spqr_tree::Tree;
 use std::alloc::{AllocError, Global};
 
@@ -15,10 +15,13 @@ pub(crate) fn blank_table(alloc: Global, tree: &Tree) -> Result<FlatLists, Alloc
     ensures { IfOk result (λ table. IsTable tree.now table) }
 {
     let mut table = FlatLists::with_capacity(alloc, tree.node_count() as usize)?;
-    let mut row = Vec::new(alloc);
+    let mut blank = Vec::new(alloc);
     for k in 0..tree.node_count() {
-        renew(&mut row, 2 * tree.items(k).len(), 0)?;
-        table.push(&row)?;
+        let count = 2 * tree.items(k).len();
+        if blank.len() < count {
+            blank.resize(count, 0)?;
+        }
+        table.push(&blank[0..count])?;
     }
     Ok(table)
 }

@@ -1,9 +1,12 @@
-use Rattle.std.proofs.Common.{subst, arith}
-use Rattle.skel_decompose.specs.Followers.{HasLasts}
-use Rattle.skel_decompose.proofs.Complete.{all-followers}
+use Rattle.std.proofs.Common.{sym, subst}
+use Rattle.std.proofs.lemmas.Result.{IfOk-weaker}
+use Rattle.faces.specs.Steps.{AreFaceSteps}
 use Rattle.skel_decompose.proofs.filling.followers.Goals as goal
 
--- all edges have been walked from
+pub followers_by_steps-requires : goal.followers_by_steps-requires
+followers_by_steps-requires c = record { steps = (c.args.r.now, c.requires.runs, subst (AreFaceSteps c.args.g.now c.args.r.now) (sym c.deref.ensures.value) c.in_ok-steps.ensures) }
+
 pub returns-clause-followers : goal.returns-clause-followers
-returns-clause-followers c = λ family m. all-followers c.args.g.now c.args.tree.now c.args.r.now c.requires.runs family c.loop-k.table
-    (subst (λ n. HasLasts c.args.g.now c.args.tree.now c.args.r.now family n 0 c.loop-k.table) (omega (arith, c.loop-k-test.false, c.node_count-k-end.ensures, c.loop-k.auto)) (c.loop-k.invariant.1 family m))
+returns-clause-followers c =
+    IfOk-weaker c.followers_by_steps.result _ _ (λ table h family m. h c.args.r.now family c.requires.runs (subst (AreFaceSteps c.args.g.now c.args.r.now) (sym c.deref.ensures.value) c.in_ok-steps.ensures) m)
+    c.followers_by_steps.ensures.followers
