@@ -1,6 +1,6 @@
 // Worked rows: small graphs with rotation systems, and their numbers counted by hand.
 
-use faces::{Euler, Faces, euler, trace};
+use faces::{Euler, Faces, euler, face_steps, trace};
 use multigraph::Graph;
 use rotations::{Lists, Rotation};
 use std::alloc::Global;
@@ -36,6 +36,13 @@ fn faces_of(alloc: Global, row: &Row) -> Result<Faces, Fail> {
     let lists = lists_of(alloc, row)?;
     let rotation = Rotation::from_lists(alloc, &graph, &lists)?;
     Ok(trace(alloc, &graph, &rotation)?)
+}
+
+fn steps_of(alloc: Global, row: &Row) -> Result<Vec<u32>, Fail> {
+    let graph = Graph::build(alloc, row.vertices, row.ends)?;
+    let lists = lists_of(alloc, row)?;
+    let rotation = Rotation::from_lists(alloc, &graph, &lists)?;
+    Ok(face_steps(alloc, &graph, &rotation)?)
 }
 
 static ROWS: [Row; 5] = [
@@ -163,5 +170,15 @@ fn traces_worked_rows(rt: HostRuntime) -> Result<(), Fail> {
     let faces = faces_of(rt.alloc(), &ROWS[4])?;
     assert_eq!(rt; faces.count(), 1);
     assert_eq!(rt; faces.face(0), LAST[0]);
+    Ok(())
+}
+
+// What follows each dart of the second row: 0 and 3 leave vertex 0, 1 and 2 vertex 1.
+static SECOND: [u32; 4] = [2, 3, 0, 1];
+
+#[test]
+fn steps_along_worked_rows(rt: HostRuntime) -> Result<(), Fail> {
+    let steps = steps_of(rt.alloc(), &ROWS[1])?;
+    assert_eq!(rt; steps.as_slice(), SECOND.as_slice());
     Ok(())
 }

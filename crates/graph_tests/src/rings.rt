@@ -8,6 +8,7 @@ use std::test::Fail;
 enum Call {
     Exchange(u32, u32),
     Reverse(u32),
+    ReverseAll,
     Unlink(u32),
     LinkAfter(u32, u32),
 }
@@ -26,6 +27,7 @@ fn make(r: &mut Rings, call: Call) {
                 r.reverse(d);
             }
         }
+        Call::ReverseAll => r.reverse_all(),
         Call::Unlink(d) => {
             if d < n {
                 r.unlink(d);
@@ -53,13 +55,14 @@ fn links(r: &Rings) -> ([u32; 4], [u32; 4]) {
 }
 
 // Calls one after the other, each with the nodes after and before each node then.
-static CALLS: [(Call, [u32; 4], [u32; 4]); 6] = [
+static CALLS: [(Call, [u32; 4], [u32; 4]); 7] = [
     (Call::Exchange(0, 1), [1, 0, 2, 3], [1, 0, 2, 3]),
     (Call::Exchange(1, 2), [1, 2, 0, 3], [2, 0, 1, 3]),
     (Call::Reverse(0), [2, 0, 1, 3], [1, 2, 0, 3]),
     (Call::Unlink(2), [1, 0, 2, 3], [1, 0, 2, 3]),
     (Call::LinkAfter(2, 0), [2, 0, 1, 3], [1, 2, 0, 3]),
     (Call::Exchange(3, 3), [2, 0, 1, 3], [1, 2, 0, 3]),
+    (Call::ReverseAll, [1, 2, 0, 3], [2, 0, 1, 3]),
 ];
 
 #[test]
@@ -74,7 +77,7 @@ fn changes_rings(rt: HostRuntime) -> Result<(), Fail> {
     }
     let copy = r.copy(alloc)?;
     make(&mut r, Call::Reverse(1));
-    assert_eq!(rt; links(&r), ([1, 2, 0, 3], [2, 0, 1, 3]));
-    assert_eq!(rt; links(&copy), ([2, 0, 1, 3], [1, 2, 0, 3]));
+    assert_eq!(rt; links(&r), ([2, 0, 1, 3], [1, 2, 0, 3]));
+    assert_eq!(rt; links(&copy), ([1, 2, 0, 3], [2, 0, 1, 3]));
     Ok(())
 }

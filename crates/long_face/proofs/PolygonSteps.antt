@@ -1,5 +1,5 @@
 -- The face steps of a polygon: a face that arrives at a vertex by one of the two items there leaves it by the other.
-use Rattle.std.proofs.Common.{◌≡◌, ◌≢◌, ℕ, ◌+◌, ◌*◌, Bool, ◌==◌, if◌then◌else◌, List, sym, ap, ◌∙◌, eq-eqb}
+use Rattle.std.proofs.Common.{◌≡◌, ◌≢◌, ℕ, ◌+◌, ◌*◌, Bool, if◌then◌else◌, List, sym, ap, ◌∙◌, eq-eqb}
 use Rattle.std.proofs.lemmas.Bool.{ne_eqb}
 use Rattle.permutations.specs.Members.{place_of}
 use Rattle.multigraph.specs.Graph.{Multigraph}

@@ -12,6 +12,7 @@ use crate::moving::moves_for;
 use crate::numbers::present_faces;
 use crate::present::has_face;
 use face_weights::{Weights, weigh};
+use faces::face_steps;
 use skel_decompose::FlatLists;
 use skel_embed::{Move, PlaneBlock};
 use std::alloc::{AllocError, Global};
@@ -52,10 +53,11 @@ pub fn longest(alloc: Global, p: &PlaneBlock) -> Result<LongestFace, AllocError>
 {
     p.belongs();
     p.graph().keeps_limits();
-    let faces = present_faces(alloc, p)?;
+    let steps = face_steps(alloc, p.graph(), p.rotation())?;
+    let faces = present_faces(alloc, p, &steps)?;
     let weights = weigh(alloc, p.tree(), &faces)?;
     let length = weights.most();
-    if has_face(alloc, p.graph(), p.rotation(), length)? {
+    if has_face(alloc, steps, length)? {
         return Ok(LongestFace {
             length,
             moves: Vec::new(alloc),

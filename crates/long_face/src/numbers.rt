@@ -2,6 +2,7 @@
 // those of other nodes from what follows their items, which is read off the rotation system only where there are such nodes.
 
 ghost use Rattle.std.specs.Prelude.{◌≡◌, ◌<◌, ◌⊎◌, ℕ, false, List, length, IfOk};
+ghost use Rattle.faces.specs.Steps.{AreFaceSteps};
 ghost use Rattle.pair_split.specs.Tutte.{node_at};
 ghost use Rattle.pair_split.specs.declared.components.Kind.TheVariants.{S, P};
 ghost use Rattle.skeletons.specs.Families.{AreSkeletonSystems, FollowsFamily, skeleton_graph, system_at};
@@ -12,7 +13,7 @@ use crate::bond_faces::bond_numbers;
 use crate::polygons::polygon_steps;
 use face_weights::number_faces;
 use pair_split::Kind;
-use skel_decompose::{FlatLists, face_steps, followers};
+use skel_decompose::{FlatLists, face_steps, followers_by_steps};
 use skel_embed::PlaneBlock;
 use spqr_tree::Tree;
 use std::alloc::{AllocError, Global};
@@ -41,14 +42,19 @@ fn some_read(tree: &Tree) -> bool
     false
 }
 
-// What follows the items of the nodes, where some node is neither a polygon nor a bond.
-fn other_followers(alloc: Global, p: &PlaneBlock) -> Result<FlatLists, AllocError>
+// What follows the items of the nodes, where some node is neither a polygon nor a bond, by the face steps of the present rotation system.
+fn other_followers(
+    alloc: Global,
+    p: &PlaneBlock,
+    block_steps: &[u32],
+) -> Result<FlatLists, AllocError>
+    requires { AreFaceSteps p.now.graph p.now.rotation block_steps.now }
     ensures { IfOk result (HaveOtherFollowers p.now.tree p.now.rotation) }
 {
     p.belongs();
     p.graph().keeps_limits();
     if some_read(p.tree()) {
-        return Ok(followers(alloc, p.graph(), p.tree(), p.rotation())?);
+        return Ok(followers_by_steps(alloc, p.graph(), p.tree(), block_steps)?);
     }
     FlatLists::with_capacity(alloc, 0)
 }
@@ -86,13 +92,19 @@ fn numbers_at(
     }
 }
 
-// The faces of the skeletons, in the family that the present rotation system follows. In time n log n. Fails only if memory runs out.
-pub(crate) fn present_faces(alloc: Global, p: &PlaneBlock) -> Result<FlatLists, AllocError>
+// The faces of the skeletons, in the family that the present rotation system follows, which has these face steps. In time n log n. Fails
+// only if memory runs out.
+pub(crate) fn present_faces(
+    alloc: Global,
+    p: &PlaneBlock,
+    block_steps: &[u32],
+) -> Result<FlatLists, AllocError>
+    requires { AreFaceSteps p.now.graph p.now.rotation block_steps.now }
     ensures { IfOk result (λ faces. (family : List (List (List ℕ))) → AreSkeletonSystems p.now.tree family
         → FollowsFamily p.now.tree family p.now.rotation → KnowFaces p.now.tree family faces) }
 {
     p.belongs();
-    let others = other_followers(alloc, p)?;
+    let others = other_followers(alloc, p, block_steps)?;
     let mut faces = FlatLists::with_capacity(alloc, p.tree().node_count() as usize)?;
     let mut sums = vec![in alloc; 0; p.graph().vertex_count() as usize]?;
     let (mut steps, mut own) = (Vec::new(alloc), Vec::new(alloc));

@@ -14,6 +14,7 @@ pub mod GmlCarried
 pub mod Ladders
 pub mod BlockCarried
 pub mod Changes
+pub mod BlockPlans
 pub mod Plans
 pub mod MovesCarried
 pub mod HistoryCarried

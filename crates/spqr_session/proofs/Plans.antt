@@ -15,7 +15,8 @@ use Rattle.spqr_session.specs.History.{lists_cleared}
 use Rattle.spqr_session.specs.Board.{BoardView, board_state, kept_with_entry, kept_changed, GoesTo, IsChangedTo, IsCarried, StandsAt, state_on, BelongTogether}
 use Rattle.spqr_session.specs.Codes.{Ladder, rises_above, first_code}
 use Rattle.spqr_session.specs.BlockCodes.{is_block, ChangesBlock, with_family, with_entry, changed, Silently, ChangeStep}
-use Rattle.spqr_session.specs.Planned.{embedding_of, IsChangeOf, IsPlan, IsPlanAt, MayStand, IsSettled}
+use Rattle.spqr_session.specs.Planned.{embedding_of, IsChangeOf, IsPlanAt, MayStand, IsSettled}
+use Rattle.spqr_session.proofs.BlockPlans.{IsPlan}
 use Rattle.spqr_session.specs.declared.code.Code.{Code}
 use Rattle.spqr_session.specs.declared.code.Code.TheVariants.{NoBlock}
 use Rattle.spqr_session.specs.declared.planned.Planned.{Planned}

@@ -10,7 +10,8 @@ use Rattle.spqr_session.specs.State.{Embedding, State, entry_at, IsState}
 use Rattle.spqr_session.specs.Codes.{code_numbers, code_text, IsLowest, NoneApplies}
 use Rattle.spqr_session.specs.BlockCodes.{ChangesBlock, changed, Silently}
 use Rattle.spqr_session.specs.Commands.Take.{TakeApplies, IsTaken, TakeStep}
-use Rattle.spqr_session.specs.Planned.{TakenCodes, EntryTakenCodes}
+use Rattle.spqr_session.specs.Planned.{TakenCodes}
+use Rattle.spqr_session.proofs.BlockPlans.{EntryTakenCodes}
 use Rattle.spqr_session.specs.declared.code.Code.{Code}
 use Rattle.spqr_session.specs.declared.code.Code.TheVariants.{NoBlock, NonPlanar}
 use Rattle.spqr_session.proofs.SettingTrees.{setting-tree}

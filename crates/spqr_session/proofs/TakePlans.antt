@@ -13,7 +13,8 @@ use Rattle.spqr_session.specs.State.{Embedding, State}
 use Rattle.spqr_session.specs.Embedded.{BlockView, view_tree, view_entry, view_at}
 use Rattle.spqr_session.specs.Codes.{NoneApplies}
 use Rattle.spqr_session.specs.Commands.Take.{IsLockedOut, TakeApplies, IsTaken}
-use Rattle.spqr_session.specs.Planned.{embedding_of, IsLowestPlan, IsLowestPlanAt, TakenCodes, EntryTakenCodes, IsTakePlan}
+use Rattle.spqr_session.specs.Planned.{embedding_of, IsLowestPlanAt, TakenCodes, IsTakePlan}
+use Rattle.spqr_session.proofs.BlockPlans.{IsLowestPlan, EntryTakenCodes}
 use Rattle.spqr_session.specs.declared.planned.Planned.{Planned}
 use Rattle.spqr_session.specs.declared.planned.Planned.TheVariants.{Refused, End, Change}
 use Rattle.spqr_session.proofs.Views.{trees-at}

@@ -20,7 +20,8 @@ use Rattle.spqr_session.specs.Trees.{BlockTree, tree_at}
 use Rattle.spqr_session.specs.State.{Embedding, State, entry_at, IsEntry}
 use Rattle.spqr_session.specs.Codes.{code_number, IsLowest, NoneApplies}
 use Rattle.spqr_session.specs.Commands.Take.{IsLockedOut, TakeApplies, IsTaken}
-use Rattle.spqr_session.specs.Planned.{TakenCodes, EntryTakenCodes}
+use Rattle.spqr_session.specs.Planned.{TakenCodes}
+use Rattle.spqr_session.proofs.BlockPlans.{EntryTakenCodes}
 use Rattle.spqr_session.specs.declared.code.Code.{Code}
 use Rattle.spqr_session.specs.declared.code.Code.TheVariants.{NoBlock, NoNode, WrongKind, BadOrder, NonPlanar, BadRotation, NotGenusZero, NothingToUndo, NothingToRedo, CountOver, RankOut, Locked, Parallel, LockedIn, NoComponent, NoCut, BlockOrder, Cross}
 use Rattle.spqr_session.proofs.Changes.{embedding-same}

@@ -15,7 +15,8 @@ use Rattle.spqr_session.specs.BlockCodes.{is_block, planar_codes, block_ladder, 
 use Rattle.spqr_session.specs.Members.{is_over, StandsAt, StandsBehind, StandsLast}
 use Rattle.spqr_session.specs.Products.{member_count, product_rank_codes}
 use Rattle.spqr_session.specs.Commands.Walk.{NextDoes, NextStep}
-use Rattle.spqr_session.specs.Planned.{embedding_of, FitsBlock, IsPlan, IsFirstPlan, IsRankPlan, IsStepPlan, IsNextPlan, IsNextPlanAt, MayStand, IsSettled}
+use Rattle.spqr_session.specs.Planned.{embedding_of, FitsBlock, IsFirstPlan, IsRankPlan, IsStepPlan, IsNextPlanAt, MayStand, IsSettled}
+use Rattle.spqr_session.proofs.BlockPlans.{IsPlan, IsNextPlan}
 use Rattle.spqr_session.specs.declared.code.Code.{Code}
 use Rattle.spqr_session.specs.declared.code.Code.TheVariants.{NoBlock, CountOver, RankOut}
 use Rattle.spqr_session.specs.declared.planned.Planned.{Planned}

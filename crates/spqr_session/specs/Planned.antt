@@ -15,8 +15,7 @@ use Rattle.spqr_session.specs.Embedded.{BlockView, view_at}
 use Rattle.spqr_session.specs.Board.{BoardView, IsChangedTo}
 use Rattle.spqr_session.specs.Codes.{Ladder, IsLowest, NoneApplies, code_text, first_code}
 use Rattle.spqr_session.specs.declared.code.Code.{Code}
-use Rattle.spqr_session.specs.declared.code.Code.TheVariants.{NonPlanar, BadRotation, NotGenusZero, CountOver, RankOut, Locked}
-use Rattle.spqr_session.specs.BlockCodes.{planar_codes}
+use Rattle.spqr_session.specs.declared.code.Code.TheVariants.{BadRotation, NotGenusZero, CountOver, RankOut, Locked}
 use Rattle.spqr_session.specs.Members.{StandsBehind, StandsLast}
 use Rattle.spqr_session.specs.Commands.Take.{IsLockedOut, IsTaken}
 use Rattle.spqr_session.specs.Commands.Convert.{conversion_text}
@@ -40,13 +39,7 @@ pub record FitsBlock (v : BlockView) (p : BlockState) : Type 0 where
 abbrev pub IsChangeOf : (BlockTree → Embedding → Embedding → Type 0) → BlockView → BlockState → Type 0
 IsChangeOf IsChange v p = (fits : FitsBlock v p) × IsChange v.tree fits.old (embedding_of p)
 
--- the plan for a block with this view: the first code that applies, or where there is none the block in its new embedding
-abbrev pub IsPlan : Ladder → (BlockTree → Embedding → Embedding → Type 0) → BlockView → Planned → Type 0
-IsPlan ladder IsChange v (Refused code) = first_code ladder ≡ Some code
-IsPlan ladder IsChange v End = ⊥
-IsPlan ladder IsChange v (Change p) = (first_code ladder ≡ None) × IsChangeOf IsChange v p
-
--- the plan for block b among these
+-- the plan for block b among these: the first code that applies, or where there is none the block in its new embedding
 abbrev pub IsPlanAt : Ladder → (BlockTree → Embedding → Embedding → Type 0) → List BlockView → ℕ → Planned → Type 0
 IsPlanAt ladder IsChange views b (Refused code) = first_code ladder ≡ Some code
 IsPlanAt ladder IsChange views b End = ⊥
@@ -86,13 +79,7 @@ pub record IsAtEnd (v : BlockView) : Type 0 where
   pub present : v.entry ≡ Some entry
   pub last : StandsLast v.tree entry
 
--- the plan of `next` for a block with this view
-abbrev pub IsNextPlan : BlockView → Planned → Type 0
-IsNextPlan v (Refused code) = first_code (planar_codes v.entry) ≡ Some code
-IsNextPlan v End = (first_code (planar_codes v.entry) ≡ None) × IsAtEnd v
-IsNextPlan v (Change p) = (first_code (planar_codes v.entry) ≡ None) × IsChangeOf StandsBehind v p
-
--- and for block b among these
+-- the plan of `next` for block b among these
 abbrev pub IsNextPlanAt : Ladder → List BlockView → ℕ → Planned → Type 0
 IsNextPlanAt ladder views b (Refused code) = first_code ladder ≡ Some code
 IsNextPlanAt ladder views b End = (first_code ladder ≡ None) × IsAtEnd (view_at views b)
@@ -128,14 +115,8 @@ IsSettled b (Refused code) before text after = (text ≡ code_text code) × (aft
 IsSettled b End before text after = (text ≡ end_text) × (after ≡ before)
 IsSettled b (Change p) before text after = (text ≡ ok_text) × IsChangedTo before b (embedding_of p) after
 
--- the plan of a command whose codes are no ladder, for a block with this view: the lowest code that applies, or where there is none
--- the block in its new embedding
-abbrev pub IsLowestPlan : (Code → Type 0) → (BlockTree → Embedding → Embedding → Type 0) → BlockView → Planned → Type 0
-IsLowestPlan applies IsChange v (Refused code) = IsLowest applies code
-IsLowestPlan applies IsChange v End = ⊥
-IsLowestPlan applies IsChange v (Change p) = NoneApplies applies × IsChangeOf IsChange v p
-
--- and for block b among these
+-- the plan of a command whose codes are no ladder, for block b among these: the lowest code that applies, or where there is none the
+-- block in its new embedding
 abbrev pub IsLowestPlanAt : (Code → Type 0) → (BlockTree → Embedding → Embedding → Type 0) → List BlockView → ℕ → Planned → Type 0
 IsLowestPlanAt applies IsChange views b (Refused code) = IsLowest applies code
 IsLowestPlanAt applies IsChange views b End = ⊥
@@ -147,11 +128,6 @@ TakenCodes entries tree e (BadRotation v) = IsFirstBadInPart tree.part entries v
 TakenCodes entries tree e (NotGenusZero v x f) = IsNotPlane tree.part entries v x f
 TakenCodes entries tree e (Locked k) = IsLockedOut tree entries e k
 TakenCodes entries tree e code = ⊥
-
--- code 5, and these
-abbrev pub EntryTakenCodes : List (ℕ × List ℕ) → BlockTree → Option Embedding → Code → Type 0
-EntryTakenCodes entries tree None code = code ≡ NonPlanar
-EntryTakenCodes entries tree (Some e) code = TakenCodes entries tree e code
 
 -- the plan of making lists the rotation system of a block in the plane, which is that part of a graph: refused, or taken
 abbrev pub IsTakePlan : GraphPart → List (ℕ × List ℕ) → BlockState → Planned → Type 0

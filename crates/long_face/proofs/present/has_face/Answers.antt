@@ -9,46 +9,48 @@ use Rattle.long_face.proofs.FaceLengths.{has-found, has-none, none-empty}
 use Rattle.long_face.proofs.present.has_face.Goals as goal
 
 pub number_faces-requires : goal.number_faces-requires
-number_faces-requires c = (c.args.g.now, c.args.r.now, c.keeps_limits.ensures.graph, c.keeps_limits.ensures.limits, c.requires, subst (AreFaceSteps c.args.g.now c.args.r.now) (sym c.deref.ensures.value) c.in_ok-steps.ensures)
+number_faces-requires c =
+    let g = c.requires.0 in
+    let r = c.requires.1 in
+    let s = c.requires.2 in
+    (g, r, s.graph, s.limits, s.system, subst (AreFaceSteps g r) (sym c.deref.ensures.value) s.each)
 
 pub count_darts-requires-clause-few : goal.count_darts-requires-clause-few
 count_darts-requires-clause-few c =
-    let g = c.args.g.now in
-    let r = c.args.r.now in
-    let numbers : NumberFaces g r c.number_faces.new.numbers.items = c.in_ok-number_faces.ensures g r c.keeps_limits.ensures.graph c.requires (subst (AreFaceSteps g r) (sym c.deref.ensures.value) c.in_ok-steps.ensures) in
+    let g = c.requires.0 in
+    let r = c.requires.1 in
+    let s = c.requires.2 in
+    let numbers : NumberFaces g r c.number_faces.new.numbers.items = c.in_ok-number_faces.ensures g r s.graph s.system (subst (AreFaceSteps g r) (sym c.deref.ensures.value) s.each) in
     let n : NumberFaces g r c.deref-2.result.now = subst (NumberFaces g r) (sym c.deref-2.ensures.value) numbers in
-    omega (arith, n.darts, c.keeps_limits.ensures.limits.few_edges)
+    omega (arith, n.darts, s.limits.few_edges)
 
 pub count_darts-requires-clause-within : goal.count_darts-requires-clause-within
 count_darts-requires-clause-within c = λ d l.
-    let g = c.args.g.now in
-    let r = c.args.r.now in
-    let numbers : NumberFaces g r c.number_faces.new.numbers.items = c.in_ok-number_faces.ensures g r c.keeps_limits.ensures.graph c.requires (subst (AreFaceSteps g r) (sym c.deref.ensures.value) c.in_ok-steps.ensures) in
+    let g = c.requires.0 in
+    let r = c.requires.1 in
+    let s = c.requires.2 in
+    let numbers : NumberFaces g r c.number_faces.new.numbers.items = c.in_ok-number_faces.ensures g r s.graph s.system (subst (AreFaceSteps g r) (sym c.deref.ensures.value) s.each) in
     let n : NumberFaces g r c.deref-2.result.now = subst (NumberFaces g r) (sym c.deref-2.ensures.value) numbers in
     subst (λ z. number_at c.deref-2.result.now d < z) (sym n.darts) (n.within d (subst (λ z. d < z) n.darts l))
 
 pub returns-clause-found : goal.returns-clause-found
-returns-clause-found c = λ t.
-    let g = c.args.g.now in
-    let r = c.args.r.now in
-    let numbers : NumberFaces g r c.number_faces.new.numbers.items = c.in_ok-number_faces.ensures g r c.keeps_limits.ensures.graph c.requires (subst (AreFaceSteps g r) (sym c.deref.ensures.value) c.in_ok-steps.ensures) in
+returns-clause-found c = λ t g r s.
+    let numbers : NumberFaces g r c.number_faces.new.numbers.items = c.in_ok-number_faces.ensures g r s.graph s.system (subst (AreFaceSteps g r) (sym c.deref.ensures.value) s.each) in
     let n : NumberFaces g r c.deref-2.result.now = subst (NumberFaces g r) (sym c.deref-2.ensures.value) numbers in
     let counts = c.count_darts.new.counts.items in
     elim c.if-len-ne0.branch [
-      | then-len-ne0 w ↦ has-found g r c.keeps_limits.ensures.graph c.requires c.deref-2.result.now counts n c.in_ok-count_darts.ensures.number c.in_ok-count_darts.ensures.each c.args.len (omega (arith, w.if-len-ne0.true))
+      | then-len-ne0 w ↦ has-found g r s.graph s.system c.deref-2.result.now counts n c.in_ok-count_darts.ensures.number c.in_ok-count_darts.ensures.each c.args.len (omega (arith, w.if-len-ne0.true))
           (subst (λ (z : List ℕ). list_any (λ y. y == c.args.len) z ≡ true) w.deref-then-len-ne0.ensures.value (sym w.contains.ensures.value ∙ sym w.result-is ∙ t))
       | else-len-ne0 w ↦ absurd (true≢false (sym t ∙ w.result-is ∙ ap not (eq-eqb c.args.len 0 w.if-len-ne0.false)))
     ]
 
 pub returns-clause-none : goal.returns-clause-none
-returns-clause-none c = λ f h.
-    let g = c.args.g.now in
-    let r = c.args.r.now in
-    let numbers : NumberFaces g r c.number_faces.new.numbers.items = c.in_ok-number_faces.ensures g r c.keeps_limits.ensures.graph c.requires (subst (AreFaceSteps g r) (sym c.deref.ensures.value) c.in_ok-steps.ensures) in
+returns-clause-none c = λ f g r s h.
+    let numbers : NumberFaces g r c.number_faces.new.numbers.items = c.in_ok-number_faces.ensures g r s.graph s.system (subst (AreFaceSteps g r) (sym c.deref.ensures.value) s.each) in
     let n : NumberFaces g r c.deref-2.result.now = subst (NumberFaces g r) (sym c.deref-2.ensures.value) numbers in
     let counts = c.count_darts.new.counts.items in
     elim c.if-len-ne0.branch [
-      | then-len-ne0 w ↦ has-none g r c.keeps_limits.ensures.graph c.requires c.deref-2.result.now counts n c.in_ok-count_darts.ensures.number c.in_ok-count_darts.ensures.each c.args.len
+      | then-len-ne0 w ↦ has-none g r s.graph s.system c.deref-2.result.now counts n c.in_ok-count_darts.ensures.number c.in_ok-count_darts.ensures.each c.args.len
           (subst (λ (z : List ℕ). list_any (λ y. y == c.args.len) z ≡ false) w.deref-then-len-ne0.ensures.value (sym w.contains.ensures.value ∙ sym w.result-is ∙ f)) h
-      | else-len-ne0 w ↦ none-empty g r c.keeps_limits.ensures.graph c.requires c.deref-2.result.now counts n c.in_ok-count_darts.ensures.number c.in_ok-count_darts.ensures.each (subst (HasFace g r) w.if-len-ne0.false h)
+      | else-len-ne0 w ↦ none-empty g r s.graph s.system c.deref-2.result.now counts n c.in_ok-count_darts.ensures.number c.in_ok-count_darts.ensures.each (subst (HasFace g r) w.if-len-ne0.false h)
     ]
