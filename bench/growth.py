@@ -1,13 +1,13 @@
 #!/usr/bin/env python3
 """growth.py PROGRAM [--runs N] [KIND ..]: by which factor each command takes longer on a block of twice the size.
 
-For each kind of bench/kinds.py whose graph is one block, or those named, at 10,000 and at 20,000 vertices: processor time of one command,
-in milliseconds, at both sizes, their quotient, and the time by that of `faces` at the greater size. The time of a command is that of
-a script with many times the command, less that of a script with it once, by the number of commands between; of both the least of N
-runs (5 if none is given), the two sizes by turns. `mirror` and `undo` are timed as pairs, so that each change is taken back.
+For each kind of bench/kinds.py whose graph is one block, or those named, at 10,000 and at 20,000 vertices: processor time of one command
+on block 0, in milliseconds, at both sizes, their quotient, and the time by that of `faces` at the greater size. The time of a command is
+that of a script with many times the command, less that of a script with it once, by the number of commands between; of both the least
+of N runs (5 if none is given), the two sizes by turns. `mirror` is timed alone, and with an `undo` after each.
 
-A pass over memory takes more than twice as long where the smaller input fits into a cache and the greater doesn't: up to 2.5 times for
-passes that do little else, as that of `mirror`. Stop other work, and compare machines with care."""
+Stop other work: times below a tenth of a millisecond swing. They can grow by more than instructions do, where the smaller input fits
+into a cache and the greater does not, or where pages are taken anew for a long answer."""
 import os
 import subprocess
 import sys
@@ -46,7 +46,7 @@ def seconds(program, path, script):
 
 def times(program, paths, command, count, runs):
     """Milliseconds of one command on each graph."""
-    scripts = [write(f"{times}.spqr", f"{command}\n" * times) for times in (1, count + 1)]
+    scripts = [write(f"{number}.spqr", f"{command}\n" * number) for number in (1, count + 1)]
     least = [[float("inf")] * 2 for _ in paths]
     for _ in range(runs):
         for own, path in zip(least, paths):
@@ -67,7 +67,8 @@ def main(program, *words):
             half, whole = times(program, paths, command, count, runs)
             faces = faces or whole
             growth = f"{whole / half:.2f}" if half else "-"
-            print(f"{kind:<16}{command.replace(chr(10), ', '):<16}{half:>9.3f}{whole:>9.3f}{growth:>8}{whole / faces:>10.2f}", flush=True)
+            by_faces = f"{whole / faces:.2f}" if faces else "-"
+            print(f"{kind:<16}{command.replace(chr(10), ', '):<16}{half:>9.3f}{whole:>9.3f}{growth:>8}{by_faces:>10}", flush=True)
 
 
 if __name__ == "__main__":
