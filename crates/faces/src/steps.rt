@@ -21,7 +21,7 @@ fn dart_onward(graph: &Graph, rotation: &Rotation, vertex: u32, edge: u32) -> u3
     dart_from(graph, vertex, rotation.succ(vertex, edge))
 }
 
-/// For each dart the next one of its face in the rotation system `rotation` of the graph: that by which the face goes on from the
+/// For each dart the next one of its face in the rotation system `rotation` of the graph: that by which the face continues from the
 /// vertex at which the dart ends. In linear time. Fails only if memory runs out.
 pub fn face_steps(alloc: Global, graph: &Graph, rotation: &Rotation) -> Result<Vec<u32>, AllocError>
     requires { IsRotationSystem graph.now rotation.now }

@@ -7,7 +7,7 @@
 // One step changes the rings: the nodes after two nodes are exchanged. It joins two rings into one or splits one into two, in
 // constant time; taking a node out and putting one in are such steps. A ring is reversed in as many steps as it has nodes, and all
 // rings in one pass over the nodes.
-// Only `Rings::new` takes memory, and the block is freed when the rings are dropped.
+// Only `Rings::new` and `Rings::copy` take memory, one block each, which is freed when the rings are dropped.
 #![tactic(auto)]
 
 mod arena;

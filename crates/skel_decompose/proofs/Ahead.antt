@@ -145,7 +145,7 @@ module _ (g : Multigraph) (nodes : List Node) (r : List (List ℕ)) (d : IsInRun
         | inr w ↦ absurd (no-both f w.0.next (sym q ∙ ap (λ z. (node_item nodes k z).what) w.1 ∙ w.0.is_link))
       ]
 
-      -- at a link it goes on beyond it, at the item that has e
+      -- at a link it continues beyond it, at the item that has e
       module _ (x q : ℕ) (wp : (node_item nodes k p).what ≡ Link x) (lq : q < length (node_at nodes x).items) (kq : (node_item nodes x q).key ≡ group nodes x e) where
         link : LinksTo comps k x
         link = (p, stands-of g nodes t k p (Link x) lp wp)

@@ -95,7 +95,7 @@ ends-first g e a q = or_left ((ends_of g e).0 == a) ((ends_of g e).1 == a) (eq-e
 pub ends-second : (g : Multigraph) (e a : ℕ) → a ≡ (ends_of g e).1 → is_end g a e ≡ true
 ends-second g e a q = or_right ((ends_of g e).0 == a) ((ends_of g e).1 == a) (eq-eqb (ends_of g e).1 a (sym q))
 
--- the edge after an edge around one of its ends is that of the dart by which a face goes on that arrives there
+-- the edge after an edge around one of its ends is that of the dart by which a face continues that arrives there
 pub step-first : (g : Multigraph) (r : List (List ℕ)) (steps : List ℕ) → IsGraph g → AreFaceSteps g r steps → (e a : ℕ) → e < edge_count g → a ≡ (ends_of g e).0 → get_or steps (2 * e + 1) 0 / 2 ≡ successor (order_at r a) e
 step-first g r steps ok s e a l q =
     ap (λ (d : ℕ). d / 2) (s.each (2 * e + 1) (omega arith) ∙ face_step-second g r e ok l) ∙ dart_from-edge g (ends_of g e).0 (successor (order_at r (ends_of g e).0) e) ∙ ap (λ (v : ℕ). successor (order_at r v) e) (sym q)

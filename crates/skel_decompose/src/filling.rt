@@ -52,7 +52,8 @@ fn fill_from(
     }
 }
 
-/// What `followers` returns for the rotation system with these face steps (`faces::face_steps`).
+/// What `followers` returns for the rotation system with these face steps (`faces::face_steps`). In time n log n for n items. Fails only
+/// if memory runs out.
 pub fn followers_by_steps(
     alloc: Global,
     g: &Graph,

@@ -19,15 +19,7 @@ fn item_beyond(tree: &Tree, k: u32, e: u32) -> u32
     ensures item { result < length (node_at tree.now k).items }
     ensures key { (node_item tree.now k result).key ≡ group tree.now k e }
 {
-    let key = tree.group(k, e);
-    let items = tree.items(k);
-    if items[0].key == key {
-        return 0;
-    }
-    match items.binary_search_by_key(&key, |item| item.key) {
-        Ok(place) => place as u32,
-        Err(_) => unreachable!(),
-    }
+    tree.item_with(k, e) as u32
 }
 
 // The item of node k that is edge e or has it beyond it.

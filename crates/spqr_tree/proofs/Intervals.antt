@@ -1,7 +1,6 @@
 -- The places of the edges in a group stand between the bounds of its item; so a search among the bounds of a node finds the group.
-use Rattle.std.proofs.Common.{◌≡◌, ◌≢◌, ℕ, zero, suc, ◌+◌, ◌-◌, ◌<◌, ◌≤◌, ◌⊎◌, inl, inr, true, List, [], length, slice_index, slice_index_or, sym, ap, ◌∙◌, subst, arith}
+use Rattle.std.proofs.Common.{◌≡◌, ◌≢◌, ℕ, zero, suc, ◌+◌, ◌-◌, ◌<◌, ◌≤◌, ◌⊎◌, inl, inr, true, List, [], length, slice_index, sym, ap, ◌∙◌, subst, arith}
 use Rattle.std.proofs.lemmas.Bool.{cases_eq, cases_lt, both_ways, not_from_true}
-use Rattle.std.proofs.lemmas.List.{get_or_default}
 use Rattle.std.proofs.lemmas.List.Sorted.{IsNonDecreasingBy-from_default}
 use Rattle.std.specs.List.Sorted.{IsNonDecreasingBy}
 use Rattle.permutations.specs.Count.{count}
@@ -12,7 +11,6 @@ use Rattle.pair_split.specs.declared.components.Comp.{Comp}
 use Rattle.pair_split.specs.declared.components.Item.{Item}
 use Rattle.pair_split.specs.declared.components.What.TheVariants.{Link}
 use Rattle.pair_split.proofs.Groups.{side-other, group-cases, in_group-link, group-some}
-use Rattle.spqr_tree.specs.Keys.{nth_item}
 use Rattle.spqr_tree.specs.Tour.{what_at, item_count, place_of, bounds_of, bound_count, bound_at, AreToured}
 use Rattle.spqr_tree.proofs.UpLinks.{comp-in, item-in, what-at, first-in, first-key, link-to, link-within, child-up, parent-down, link-once, edge-stands, falls, group-is}
 
@@ -215,8 +213,8 @@ module _ (g : Multigraph) (nodes : List Node) (t : IsTutte g nodes) (few : 0 < e
         (subst (λ (z : List ℕ). (y : ℕ) → y < i → slice_index z y ≤ place_of places e) list-is (subst (λ z. (y : ℕ) → y < i → slice_index list y ≤ z) p up_to))
         (subst (λ (z : List ℕ). (y : ℕ) → i ≤ y → y < length z → place_of places e < slice_index z y) list-is (subst (λ z. (y : ℕ) → i ≤ y → y < length list → z < slice_index list y) p above))
 
-    pub found-some : (item : Item) → i < length items → item ≡ slice_index_or items i item → item.key ≡ group nodes k e
-    found-some item d q = ap (λ (z : Item). z.key) (q ∙ get_or_default items i item (nth_item [] 0) d ∙ ap (λ (z : List Item). nth_item z i) items-are) ∙ found.0 (subst (λ (z : List Item). i < length z) items-are d)
+    pub found-here : i < length items → (node_item nodes k i).key ≡ group nodes k e
+    found-here d = found.0 (subst (λ (z : List Item). i < length z) items-are d)
 
-    pub found-none : length items ≤ i → 0 ≡ group nodes k e
-    found-none d = found.1 (subst (λ (z : List Item). length z ≤ i) items-are d)
+    pub found-first : length items ≤ i → (node_item nodes k 0).key ≡ group nodes k e
+    found-first d = first-key g nodes t few k l ∙ found.1 (subst (λ (z : List Item). length z ≤ i) items-are d)

@@ -3,7 +3,7 @@
 ghost use Rattle.std.specs.Prelude.{◌≡◌, ◌<◌, ◌≤◌, ◌^◌, ℕ, length, slice_index, IfOk};
 ghost use Rattle.std.specs.List.Sorted.{IsNonDecreasingBy};
 ghost use Rattle.multigraph.specs.Graph.{Multigraph, IsGraph, edge_count};
-ghost use Rattle.pair_split.specs.Tutte.{node_at, group, IsTutte};
+ghost use Rattle.pair_split.specs.Tutte.{node_at, node_item, group, IsTutte};
 
 use crate::bounds::Bounds;
 use crate::nodes::Nodes;
@@ -72,12 +72,24 @@ impl Tree {
         requires tree { (g : Multigraph) × IsGraph g × IsTutte g self.now × (e < edge_count g) }
         ensures { result ≡ group self.now k e }
     {
+        self.items(k)[self.item_with(k, e)].key
+    }
+
+    /// The place among the items of node `k` of the one that is edge `e` or has `e` beyond it. Takes no memory; a binary search among
+    /// the items.
+    pub fn item_with(&self, k: u32, e: u32) -> usize
+        requires node { k < length self.now }
+        requires tree { (g : Multigraph) × IsGraph g × IsTutte g self.now × (e < edge_count g) }
+        ensures within { result < length (node_at self.now k).items }
+        ensures key { (node_item self.now k result).key ≡ group self.now k e }
+    {
         let place = self.places[e as usize];
         let i = bounds_up_to(self.bounds[k as usize].as_slice(), place);
-        match self.items(k).get(i) {
-            Some(item) => item.key,
-            // After all bounds: beyond the first item, whose key is 0.
-            None => 0,
+        if i < self.items(k).len() {
+            i
+        } else {
+            // After all bounds: beyond the first item.
+            0
         }
     }
 
