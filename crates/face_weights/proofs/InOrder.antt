@@ -13,7 +13,8 @@ use Rattle.skeletons.specs.Items.{IsBlockTree}
 use Rattle.spqr_tree.specs.Keys.{parent_at}
 use Rattle.spqr_tree.proofs.UpLinks.{link-to, link-once, link-within, node-in, comp-in, item-of}
 use Rattle.face_weights.specs.Weights.{weight_by}
-use Rattle.face_weights.specs.Passes.{IsOrderOf, LinkOnce}
+use Rattle.face_weights.specs.Orders.{IsOrderOf}
+use Rattle.face_weights.specs.Passes.{LinkOnce}
 
 -- the weight of an edge, of a link to the parent, and of another link
 pub weight-edge : (parent : ℕ) (below : ℕ → ℕ) (above : ℕ) (w : What) (e : ℕ) → w ≡ Real e → weight_by parent below above w ≡ 1

@@ -9,7 +9,10 @@ pub mod UpSteps
 pub mod DownSteps
 pub mod Weighed
 pub mod Steps
-pub mod OrderCode
+pub mod Ways
+pub mod Hanging
+pub mod FirstParents
+pub mod Rerooting
 pub mod NodeCode
 pub mod Numbering
 pub mod Totals

@@ -16,7 +16,8 @@ use Rattle.spqr_tree.specs.Keys.{parent_at}
 use Rattle.face_weights.specs.Weights.{Weighing, weight_of}
 use Rattle.face_weights.specs.Reached.{AreWeights}
 use Rattle.face_weights.specs.Rests.{IsRest}
-use Rattle.face_weights.specs.Passes.{IsOrderOf, AreLight, weights_at, AreBelow, IsDone, IsMost, AreDone}
+use Rattle.face_weights.specs.Orders.{IsOrderOf}
+use Rattle.face_weights.specs.Passes.{AreLight, weights_at, AreBelow, IsDone, IsMost, AreDone}
 use Rattle.face_weights.proofs.RestLemmas.{rest-once, rest-other}
 use Rattle.face_weights.proofs.InOrder.{weight-edge, weight-up, weight-down, place-of, some, once, child-parent, parent-one}
 
@@ -26,7 +27,7 @@ module _ (g : Multigraph) (nodes : List Node) (b : IsBlockTree g nodes) (family 
     (number : length below ≡ length nodes) (also : length above ≡ length nodes) (up : AreBelow nodes family parents order 0 below) (down : AreDone nodes family parents order below above (length order) most top) (light : AreLight nodes parents below above) where
   -- all weights
   abbrev all : Weighing
-  all = record { parents = parents; below = below; above = above; most = most; top = top }
+  all = record { parents = parents; order = order; below = below; above = above; most = most; top = top }
 
   abbrev weight : ℕ → ℕ → ℕ
   weight = weight_of nodes all
@@ -86,6 +87,7 @@ module _ (g : Multigraph) (nodes : List Node) (b : IsBlockTree g nodes) (family 
   pub weighed : AreWeights nodes family all
   weighed = record {
     sized = record { parents = o.ordered.places ∙ length-map nodes (λ node. record { kind = node.kind; items = map piece_of node.items }); below = number; above = also };
+    ordered = o;
     light = light;
     edges = λ k i e w. weight-edge (parent_at parents k) (λ j. slice_index_or below j 0) (slice_index_or above k 0) (node_item nodes k i).what e w;
     table = record {

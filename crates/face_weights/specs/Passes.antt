@@ -1,22 +1,14 @@
--- State of the loops: nodes in an order in which each is after its parent, and what the passes over them have done.
-use Rattle.std.specs.Prelude.{◌≡◌, ◌≢◌, ℕ, ◌+◌, ◌*◌, ◌<◌, ◌≤◌, true, List, length, slice_index_or}
+-- State of the loops: what the passes over the nodes have done, in an order in which each is after its parent.
+use Rattle.std.specs.Prelude.{◌≡◌, ◌≢◌, ℕ, ◌+◌, ◌*◌, ◌<◌, ◌≤◌, List, length, slice_index_or}
 use Rattle.permutations.specs.Count.{count}
-use Rattle.permutations.specs.Members.{is_distinct}
 use Rattle.multigraph.specs.Graph.{Multigraph, edge_count}
 use Rattle.pair_split.specs.Tutte.{Node, components, node_at, node_item, has_in_group}
 use Rattle.pair_split.specs.declared.components.What.TheVariants.{Link}
 use Rattle.pair_split.specs.declared.components.Item.{Item}
 use Rattle.skeletons.specs.Items.{nth_item, IsBlockTree}
-use Rattle.spqr_tree.specs.Keys.{parent_at, AreOrdered}
+use Rattle.spqr_tree.specs.Keys.{parent_at}
 use Rattle.face_weights.specs.Weights.{weight_by}
 use Rattle.face_weights.specs.Rests.{IsRest}
-
--- the nodes, each once and after its parent
-pub record IsOrderOf (nodes : List Node) (parents order : List ℕ) : Type 0 where
-  pub root : ℕ
-  pub root_in : root < length (components nodes)
-  pub ordered : AreOrdered (components nodes) root parents order
-  pub distinct : is_distinct order ≡ true
 
 -- the weights of the items of node k
 abbrev pub weights_at : List Node → List ℕ → List ℕ → ℕ → ℕ → ℕ → ℕ

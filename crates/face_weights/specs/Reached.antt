@@ -4,6 +4,7 @@ use Rattle.pair_split.specs.Tutte.{Node, node_at}
 use Rattle.pair_split.specs.declared.components.Kind.TheVariants.{P}
 use Rattle.skeleton_faces.specs.Faces.{skeleton_weight, IsSkeletonDart, AreAcross, EdgesWeighOne}
 use Rattle.skeleton_faces.specs.Tables.{IsTable}
+use Rattle.face_weights.specs.Orders.{IsOrderOf}
 use Rattle.face_weights.specs.Passes.{AreLight}
 use Rattle.face_weights.specs.Weights.{Weighing, weight_of, IsSized}
 
@@ -21,9 +22,10 @@ pub record IsTop (nodes : List Node) (family : List (List (List ℕ))) (weight :
   pub face : (node_at nodes top).kind ≢ P → (d : ℕ) × IsSkeletonDart nodes top d × (skeleton_weight nodes family weight top d ≡ most)
   pub pair : (node_at nodes top).kind ≡ P → (i : ℕ) × (h : ℕ) × (i < length (node_at nodes top).items) × (h < length (node_at nodes top).items) × (i ≢ h) × (weight top i + weight top h ≡ most)
 
--- the weights bound the faces, and each is reached
+-- the weights bound the faces, and each is reached; the nodes are in order
 pub record AreWeights (nodes : List Node) (family : List (List (List ℕ))) (w : Weighing) : Type 0 where
   pub sized : IsSized nodes w
+  pub ordered : IsOrderOf nodes w.parents w.order
   pub light : AreLight nodes w.parents w.below w.above
   pub edges : EdgesWeighOne nodes (weight_of nodes w)
   pub table : IsTable nodes family (weight_of nodes w) w.most

@@ -4,10 +4,11 @@ use Rattle.pair_split.specs.Tutte.{Node, node_item}
 use Rattle.pair_split.specs.declared.components.What.{What}
 use Rattle.pair_split.specs.declared.components.What.TheVariants.{Real, Link}
 
--- of each node its parent, the weight of the parent's link to it, and the weight of its own link to the parent; and the greatest
+-- of each node its parent, the weight of the parent's link to it, and the weight of its own link to the parent; the nodes in order; and the greatest
 -- weight of a face, and a node that reaches it
 pub record Weighing : Type 0 where
   pub parents : List ℕ
+  pub order : List ℕ
   pub below : List ℕ
   pub above : List ℕ
   pub most : ℕ

@@ -11,9 +11,10 @@ ghost use Rattle.face_weights.specs.Weights.{weight_by};
 ghost use Rattle.face_weights.specs.Reached.{AreWeights};
 ghost use Rattle.face_weights.specs.Rests.{IsRest};
 ghost use Rattle.face_weights.specs.Sums.{weight_in};
-ghost use Rattle.face_weights.specs.Passes.{LinkOnce, IsOrderOf, AreBelow, AreDone, AreLight, AreHandedDown};
+ghost use Rattle.face_weights.specs.Orders.{IsOrderOf};
+ghost use Rattle.face_weights.specs.Passes.{LinkOnce, AreBelow, AreDone, AreLight, AreHandedDown};
 
-use crate::ordering::{ABSENT, order_of};
+use crate::ordering::order_of;
 use crate::rests::{rest_at, rests_of};
 use crate::table::Weights;
 use pair_split::{Item, What};
@@ -191,12 +192,11 @@ pub fn weigh(alloc: Global, tree: &Tree, faces: &FlatLists) -> Result<Weights, A
     ensures { IfOk result (λ w. (family : List (List (List ℕ))) → KnowFaces tree.now family faces.now
         → AreWeights tree.now family w) }
 {
-    let mut parents = vec![in alloc; ABSENT; tree.node_count() as usize]?;
-    let order = order_of(alloc, tree, &mut parents)?;
-    let below = pass_up(alloc, tree, faces, &parents, &order)?;
-    let (above, most, top) = pass_down(alloc, tree, faces, &parents, &order, &below)?;
+    let order = order_of(alloc, tree)?;
+    let below = pass_up(alloc, tree, faces, &order.parents, &order.nodes)?;
+    let (above, most, top) = pass_down(alloc, tree, faces, &order.parents, &order.nodes, &below)?;
     Ok(Weights {
-        parents,
+        order,
         below,
         above,
         most,

@@ -10,7 +10,7 @@ ghost use Rattle.long_face.specs.Walk.{IsWalked};
 
 use crate::walking::wants_from;
 use crate::wants::Want;
-use face_weights::{ABSENT, Weights, order_from};
+use face_weights::Weights;
 use skel_decompose::FlatLists;
 use spqr_tree::Tree;
 use std::alloc::{AllocError, Global};
@@ -32,8 +32,14 @@ pub(crate) fn wants_of(
         → IsWalked g tree.now family (weight_of tree.now weights.now) weights.now.top
         weights.now.most wants.items) }
 {
-    let top = weights.top();
-    let mut parents = vec![in alloc; ABSENT; tree.node_count() as usize]?;
-    let order = order_from(alloc, tree, top, &mut parents)?;
-    wants_from(alloc, tree, faces, weights, top, &parents, &order)
+    let order = weights.order_from_top(alloc, tree)?;
+    wants_from(
+        alloc,
+        tree,
+        faces,
+        weights,
+        weights.top(),
+        &order.parents,
+        &order.nodes,
+    )
 }

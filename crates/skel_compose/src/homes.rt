@@ -10,8 +10,8 @@ use pair_split::What;
 use spqr_tree::Tree;
 use std::alloc::{AllocError, Global};
 
-// Puts the homes of the edges that node k has into the list.
-fn put_homes(g: &Graph, tree: &Tree, k: u32, homes: &mut [(u32, u32)])
+/// Puts the homes of the edges that node `k` has into the list, which has those of the nodes before. In time in proportion to the items.
+pub fn put_homes(g: &Graph, tree: &Tree, k: u32, homes: &mut [(u32, u32)])
     requires node { k < length tree.now }
     requires block { IsBlockTree g.now tree.now }
     requires limits { IsWithinLimits g.now }

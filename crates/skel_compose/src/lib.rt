@@ -30,7 +30,7 @@ mod table;
 mod walking;
 
 pub use composing::compose;
-pub use homes::homes_of;
+pub use homes::{homes_of, put_homes};
 pub use rows::{bond_row, next_edges, polygon_row};
 pub use sums::end_sums;
 pub use table::item_place;

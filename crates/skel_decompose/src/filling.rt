@@ -8,14 +8,12 @@ ghost use Rattle.skel_decompose.specs.Followers.{IsInRuns, IsFamily, HasLasts};
 ghost use Rattle.skel_decompose.specs.Neighbors.{AreNeighbors};
 
 use crate::lists::FlatLists;
-use crate::neighbors::neighbors_of;
-use crate::table::blank_table;
+use crate::survey::{Survey, surveyed};
 use crate::walking::walk;
 use faces::face_steps;
 use multigraph::Graph;
 use pair_split::What;
 use rotations::Rotation;
-use skel_compose::homes_of;
 use spqr_tree::Tree;
 use std::alloc::{AllocError, Global};
 
@@ -66,9 +64,11 @@ pub fn followers_by_steps(
         → IsInRuns g.now tree.now r → AreFaceSteps g.now r steps.now → IsFamily tree.now r family
         → HasFollowers tree.now family table) }
 {
-    let homes = homes_of(alloc, g, tree)?;
-    let neighbors = neighbors_of(alloc, tree)?;
-    let mut table = blank_table(alloc, tree)?;
+    let Survey {
+        homes,
+        neighbors,
+        mut table,
+    } = surveyed(alloc, g, tree)?;
     for k in 0..tree.node_count() {
         fill_from(g, tree, steps, &homes, &neighbors, k, &mut table);
     }

@@ -30,6 +30,7 @@ mod members;
 mod neighbors;
 mod searching;
 mod steps;
+mod survey;
 mod table;
 mod walking;
 

@@ -10,8 +10,8 @@ use pair_split::What;
 use spqr_tree::Tree;
 use std::alloc::{AllocError, Global};
 
-// Notes node k for the nodes to which its links lead, but for the first item.
-fn note_neighbors(tree: &Tree, k: u32, neighbors: &mut [Option<(u32, u32)>])
+// Notes node k for the nodes to which its links lead, but for the first item. The contract does not say for which nodes a neighbor is known.
+pub(crate) fn note_neighbors(tree: &Tree, k: u32, neighbors: &mut [Option<(u32, u32)>])
     requires block { (g : Multigraph) × IsBlockTree g tree.now × IsWithinLimits g }
     requires node { k < length tree.now }
     requires neighbors { AreNeighbors tree.now neighbors.old }
@@ -26,28 +26,13 @@ fn note_neighbors(tree: &Tree, k: u32, neighbors: &mut [Option<(u32, u32)>])
 }
 
 // A list of as many nodes of which no neighbor is known.
-fn unknown(alloc: Global, count: u32) -> Result<Vec<Option<(u32, u32)>>, AllocError>
+pub(crate) fn unknown(alloc: Global, count: u32) -> Result<Vec<Option<(u32, u32)>>, AllocError>
     ensures each { IfOk result (λ neighbors. length neighbors.items ≡ count) }
     ensures none { IfOk result (λ neighbors. (x : ℕ) → slice_index_or neighbors.items x None ≡ None) }
 {
     let mut neighbors = Vec::with_capacity(alloc, count as usize)?;
     for _node in 0..count {
         neighbors.push(None)?;
-    }
-    Ok(neighbors)
-}
-
-// For each node a neighbor, and its item that is the link to the node. The contract does not say for which nodes one is known.
-pub(crate) fn neighbors_of(
-    alloc: Global,
-    tree: &Tree,
-) -> Result<Vec<Option<(u32, u32)>>, AllocError>
-    requires block { (g : Multigraph) × IsBlockTree g tree.now × IsWithinLimits g }
-    ensures { IfOk result (λ neighbors. AreNeighbors tree.now neighbors.items) }
-{
-    let mut neighbors = unknown(alloc, tree.node_count())?;
-    for k in 0..tree.node_count() {
-        note_neighbors(tree, k, &mut neighbors);
     }
     Ok(neighbors)
 }

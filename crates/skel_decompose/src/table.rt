@@ -1,27 +1,27 @@
 // The table of what follows each item of each node around each of its ends (`skel_compose::item_place`), before it is filled.
 
-ghost use Rattle.std.specs.Prelude.{IfOk};
-ghost use Rattle.multigraph.specs.Graph.{Multigraph, IsWithinLimits};
-ghost use Rattle.skeletons.specs.Items.{IsBlockTree};
+ghost use Rattle.std.specs.Prelude.{◌+◌, ◌<◌, length, IfOk};
 ghost use Rattle.skel_compose.specs.Followers.{IsTable};
+ghost use Rattle.skel_decompose.specs.Survey.{AreRows};
 
 use crate::lists::FlatLists;
 use spqr_tree::Tree;
-use std::alloc::{AllocError, Global};
+use std::alloc::AllocError;
 
-// A table in which nothing is written yet.
-pub(crate) fn blank_table(alloc: Global, tree: &Tree) -> Result<FlatLists, AllocError>
-    requires block { (g : Multigraph) × IsBlockTree g tree.now × IsWithinLimits g }
-    ensures { IfOk result (λ table. IsTable tree.now table) }
+// Appends the list of node k, in which nothing is written yet. `blank` is a list of zeros.
+pub(crate) fn push_blank(
+    tree: &Tree,
+    k: u32,
+    blank: &mut Vec<u32>,
+    table: &mut FlatLists,
+) -> Result<(), AllocError>
+    requires node { k < length tree.now }
+    requires before { AreRows tree.now k table.old }
+    ensures { IfOk result (λ _. AreRows tree.now (k + 1) table.new) }
 {
-    let mut table = FlatLists::with_capacity(alloc, tree.node_count() as usize)?;
-    let mut blank = Vec::new(alloc);
-    for k in 0..tree.node_count() {
-        let count = 2 * tree.items(k).len();
-        if blank.len() < count {
-            blank.resize(count, 0)?;
-        }
-        table.push(&blank[0..count])?;
+    let count = 2 * tree.items(k).len();
+    if blank.len() < count {
+        blank.resize(count, 0)?;
     }
-    Ok(table)
+    table.push(&blank[0..count])
 }

@@ -10,7 +10,7 @@ ghost use Rattle.spqr_session.specs.History.{as_pairs, IsMoveOf, IsStepOf};
 ghost use Rattle.spqr_session.specs.Moved.{all_moved};
 
 use crate::embedded::EmbeddedBlock;
-use face_weights::{ABSENT, order_from};
+use face_weights::{Order, order_from};
 use multigraph::Graph;
 use pair_split::What;
 use skel_embed::{Draft, Move, Outcome, PlaneBlock};
@@ -62,11 +62,10 @@ fn sizes_of(alloc: Global, tree: &Tree) -> Result<Sizes, AllocError>
     requires { (g : Multigraph) × IsBlockTree g tree.now × IsWithinLimits g }
 {
     let n = tree.node_count() as usize;
-    let mut parents = vec![in alloc; ABSENT; n]?;
-    let order = order_from(alloc, tree, 0, &mut parents)?;
+    let Order { parents, nodes } = order_from(alloc, tree, 0)?;
     let mut below = vec![in alloc; 0; n]?;
-    for i in 0..order.len() {
-        add_up(tree, order[order.len() - 1 - i], &parents, &mut below);
+    for i in 0..nodes.len() {
+        add_up(tree, nodes[nodes.len() - 1 - i], &parents, &mut below);
     }
     Ok(Sizes { parents, below })
 }
