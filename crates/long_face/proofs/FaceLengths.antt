@@ -5,13 +5,15 @@ use Rattle.std.proofs.lemmas.Bool.{both_ways, cases_eq, ne_eqb, or_left, or_righ
 use Rattle.std.proofs.lemmas.List.{get_or-set_same, get_or-set_other}
 use Rattle.permutations.specs.Count.{count}
 use Rattle.permutations.proofs.Count.{count-ext, count-positive, count-yes, count-no, last-passing}
-use Rattle.multigraph.specs.Graph.{Multigraph, IsGraph}
+use Rattle.multigraph.specs.Graph.{Multigraph, IsGraph, IsWithinLimits}
 use Rattle.rotations.specs.Rotation.{IsRotationSystem}
 use Rattle.faces.specs.Euler.{dart_count}
+use Rattle.faces.specs.Steps.{AreFaceSteps}
 use Rattle.skeleton_faces.specs.Faces.{on_one_face, face_length}
 use Rattle.face_weights.specs.Numbers.{number_at, NumberFaces}
 use Rattle.face_weights.specs.Sums.{weight_in}
 use Rattle.long_face.specs.Longest.{HasFace}
+use Rattle.long_face.specs.Present.{AreStepsOf}
 use Rattle.long_face.proofs.Lengths.{listed-dart, dart-listed}
 
 -- one dart more
@@ -79,3 +81,12 @@ module _ (g : Multigraph) (r : List (List ℕ)) (ok : IsGraph g) (system : IsRot
   none-empty h =
       let w = listed-dart g r ok system 0 h in
       omega (arith, w.2, some-dart w.0 w.1)
+
+-- face steps that were made of the parts of a block are those of its rotation system
+pub steps-made : (g g1 g2 : Multigraph) (r r1 : List (List ℕ)) (steps : List ℕ) → IsGraph g1 → IsWithinLimits g1 → g1 ≡ g → IsRotationSystem g r → AreFaceSteps g2 r1 steps → g2 ≡ g → r1 ≡ r → AreStepsOf g r steps
+steps-made g g1 g2 r r1 steps graph limits one system each two same = record {
+  graph = subst IsGraph one graph;
+  limits = subst IsWithinLimits one limits;
+  system = system;
+  each = subst (λ (z : Multigraph). AreFaceSteps z r steps) two (subst (λ (z : List (List ℕ)). AreFaceSteps g2 z steps) same each);
+}

@@ -1,10 +1,10 @@
 -- What is asked of a node by its parent, and the want that answers it.
-use Rattle.std.proofs.Common.{◌≡◌, ℕ, ◌+◌, ◌*◌, ◌/◌, ◌<◌, ◌⊎◌, Bool, true, false, List, length, inl, inr, refl, sym, ap, ◌∙◌, subst, arith}
+use Rattle.std.proofs.Common.{◌≡◌, ℕ, ◌+◌, ◌*◌, ◌/◌, ◌<◌, ◌⊎◌, Bool, true, false, cond, List, length, inl, inr, refl, sym, ap, ◌∙◌, subst, arith}
 use Rattle.std.specs.Prelude.{Option, None, Some}
 use Rattle.std.proofs.lemmas.Bool.{both_ways, true≢false}
-use Rattle.multigraph.specs.Graph.{Multigraph}
+use Rattle.multigraph.specs.Graph.{Multigraph, edge_count}
 use Rattle.dart_maps.specs.Map.{twin}
-use Rattle.dart_maps.proofs.Darts.{twin-even, twin-edge, twin-twin}
+use Rattle.dart_maps.proofs.Darts.{twin-even, twin-edge, twin-twin, twin-below}
 use Rattle.faces.specs.Euler.{dart_count, IsPlane}
 use Rattle.pair_split.specs.Tutte.{Node, node_at, node_item}
 use Rattle.pair_split.specs.declared.components.Kind.TheVariants.{P}
@@ -12,10 +12,10 @@ use Rattle.pair_split.specs.declared.components.What.TheVariants.{Link}
 use Rattle.skeletons.specs.Items.{IsBlockTree}
 use Rattle.skeletons.specs.Families.{skeleton_graph, system_at, AreSkeletonSystems}
 use Rattle.skeleton_planes.proofs.SkeletonDarts.{dart-item}
-use Rattle.skeleton_faces.specs.Faces.{IsSkeletonDart, AreAcross}
+use Rattle.skeleton_faces.specs.Faces.{IsSkeletonDart, AreAcross, skeleton_weight}
 use Rattle.long_face.specs.Wanted.{Want, IsPair, on_wanted}
 use Rattle.long_face.specs.Heaviest.{IsGreatest, IsHeaviest, number_in}
-use Rattle.long_face.specs.Ready.{NodeRows, AreRowsOf, IsReady}
+use Rattle.long_face.specs.Ready.{NodeRows, AreRowsOf, AreNeeded, IsReady}
 use Rattle.long_face.specs.Settled.{IsBest, IsSettled}
 use Rattle.long_face.specs.Walk.{IsAskable, IsAsked}
 use Rattle.long_face.proofs.Asked.{across-first, across-second, across-cases, one-side}
@@ -96,32 +96,54 @@ module _ (g : Multigraph) (nodes : List Node) (b : IsBlockTree g nodes) (family 
 
 -- another the heaviest face of the dart
 module _ (g : Multigraph) (nodes : List Node) (family : List (List (List ℕ))) (weight : ℕ → ℕ → ℕ) (top most : ℕ) (y : IsReady g nodes family weight top most) (p k : ℕ) (above : Want) (a : IsAskable nodes p k above)
-    (rows : NodeRows) (row : AreRowsOf nodes family weight k rows) where
+    (rows : NodeRows) (needed : AreNeeded nodes family weight k rows) where
+  -- what a face weighs
+  abbrev sum : ℕ → ℕ
+  sum d = skeleton_weight nodes family weight k d
+
   pub settled-some : (dart : ℕ) (w : Want) → IsAsked nodes family p above k (Some dart) → IsHeaviest (node_at nodes k).kind (length rows.weights) (number_in rows.weights) (number_in rows.sums) dart w
       → IsSettled nodes family weight p (Some above) k (Some w)
   settled-some dart w o m = record {
     forced = λ x e c v. (refl, m.same ∙ same dart (twin e) (o.forced x e c v));
     source = λ h. let s = o.source dart refl in
-        (s.0, s.1, s.2, s.3, m.same ∙ s.4, best-below g nodes y.block family y.systems y.plane weight most y.table p s.0 k s.1 s.2 (y.links p s.0 k s.1 s.2) (y.bond_links p s.0 k s.1 s.2) w (number_in rows.sums) row.sums (heaviest s.1 s.4 (s.2.second.1)));
+        (s.0, s.1, s.2, s.3, m.same ∙ s.4, best-below g nodes y.block family y.systems y.plane weight most y.table p s.0 k s.1 s.2 (y.links p s.0 k s.1 s.2) (y.bond_links p s.0 k s.1 s.2) w sum (λ d l. refl) (heaviest s.1 s.4 (s.2.second.1)));
   }
     where
-      heaviest : (e : ℕ) → dart ≡ twin e → e < dart_count (skeleton_graph nodes k) → IsHeaviest (node_at nodes k).kind (length (node_at nodes k).items) (weight k) (number_in rows.sums) (twin e) w
-      heaviest e q l = subst (λ z. IsHeaviest (node_at nodes k).kind (length (node_at nodes k).items) (weight k) (number_in rows.sums) z w) q (record {
+      heaviest : (e : ℕ) → dart ≡ twin e → e < dart_count (skeleton_graph nodes k) → IsHeaviest (node_at nodes k).kind (length (node_at nodes k).items) (weight k) sum (twin e) w
+      heaviest e q l = subst (λ z. IsHeaviest (node_at nodes k).kind (length (node_at nodes k).items) (weight k) sum z w) q (record {
         same = m.same;
         pair = pair;
-        bounds = λ b h u n. let c = m.bounds b h (subst (λ z. h < z) (sym row.items) u) n in
-            omega (arith, c, row.weights (dart / 2) item, row.weights h u, row.weights w.first ((pair b).first_in), row.weights w.second ((pair b).second_in));
-        reached = λ b. let c = m.reached b in
-            let u : c.0 < length (node_at nodes k).items = subst (λ z. c.0 < z) row.items c.1 in
-            (c.0, u, c.2, omega (arith, c.3, row.weights (dart / 2) item, row.weights c.0 u, row.weights w.first ((pair b).first_in), row.weights w.second ((pair b).second_in)));
-        sides = m.sides;
+        bounds = λ b h u n.
+            let f = needed.bond b in
+            let c = m.bounds b h (subst (λ z. h < z) (sym f.0) u) n in
+            omega (arith, c, f.1 (dart / 2) item, f.1 h u, f.1 w.first ((pair b).first_in), f.1 w.second ((pair b).second_in));
+        reached = λ b.
+            let f = needed.bond b in
+            let c = m.reached b in
+            let u : c.0 < length (node_at nodes k).items = subst (λ z. c.0 < z) f.0 c.1 in
+            (c.0, u, c.2, omega (arith, c.3, f.1 (dart / 2) item, f.1 c.0 u, f.1 w.first ((pair b).first_in), f.1 w.second ((pair b).second_in)));
+        sides = λ b.
+            let row = needed.sides b in
+            let c = m.sides b in
+            (omega (arith, c.0, row.sums dart inside, either row w.turned), omega (arith, c.1, row.sums (twin dart) inside-twin, either row w.turned));
       })
         where
           pair : (node_at nodes k).kind ≡ P → IsPair (length (node_at nodes k).items) w
-          pair b = subst (λ z. IsPair z w) row.items (m.pair b)
+          pair b = subst (λ z. IsPair z w) ((needed.bond b).0) (m.pair b)
 
           item : dart / 2 < length (node_at nodes k).items
           item = subst (λ z. z < length (node_at nodes k).items) (sym (ap (λ z. z / 2) q ∙ twin-edge e)) (dart-item g nodes y.block k a.far e l)
+
+          inside : dart < dart_count (skeleton_graph nodes k)
+          inside = subst (λ z. z < dart_count (skeleton_graph nodes k)) (sym q) (twin-below (edge_count (skeleton_graph nodes k)) e l)
+
+          inside-twin : twin dart < dart_count (skeleton_graph nodes k)
+          inside-twin = twin-below (edge_count (skeleton_graph nodes k)) dart inside
+
+          -- the sum of either dart
+          either : AreRowsOf nodes family weight k rows → (t : Bool) → number_in rows.sums (cond t (twin dart) dart) ≡ sum (cond t (twin dart) dart)
+          either row true = row.sums (twin dart) inside-twin
+          either row false = row.sums dart inside
 
 -- the heaviest face of the top
 pub greatest-top : (g : Multigraph) (nodes : List Node) (family : List (List (List ℕ))) (weight : ℕ → ℕ → ℕ) (top most : ℕ) → IsReady g nodes family weight top most → (rows : NodeRows) → AreRowsOf nodes family weight top rows → (w : Want)

@@ -3,7 +3,7 @@ use Rattle.std.specs.Prelude.{◌≡◌, ◌≢◌, ℕ, ◌+◌, ◌*◌, ◌/�
 use Rattle.multigraph.specs.Graph.{Multigraph, IsWithinLimits}
 use Rattle.faces.specs.Euler.{dart_count, IsPlane}
 use Rattle.pair_split.specs.Tutte.{Node, node_at}
-use Rattle.pair_split.specs.declared.components.Kind.TheVariants.{P}
+use Rattle.pair_split.specs.declared.components.Kind.TheVariants.{P, R}
 use Rattle.skeletons.specs.Items.{IsBlockTree}
 use Rattle.skeletons.specs.Families.{skeleton_graph, system_at, AreSkeletonSystems}
 use Rattle.skeleton_faces.specs.Faces.{skeleton_weight, IsSkeletonDart, AreAcross}
@@ -24,6 +24,11 @@ pub record AreRowsOf (nodes : List Node) (family : List (List (List ℕ))) (weig
   pub weights : (i : ℕ) → i < length (node_at nodes k).items → number_in rows.weights i ≡ weight k i
   pub darts : length rows.sums ≡ 2 * length rows.weights
   pub sums : (d : ℕ) → d < dart_count (skeleton_graph nodes k) → number_in rows.sums d ≡ skeleton_weight nodes family weight k d
+
+-- of a bond the weights are, and of a triconnected node both
+pub record AreNeeded (nodes : List Node) (family : List (List (List ℕ))) (weight : ℕ → ℕ → ℕ) (k : ℕ) (rows : NodeRows) : Type 0 where
+  pub bond : (node_at nodes k).kind ≡ P → (length rows.weights ≡ length (node_at nodes k).items) × ((i : ℕ) → i < length (node_at nodes k).items → number_in rows.weights i ≡ weight k i)
+  pub sides : (node_at nodes k).kind ≡ R → AreRowsOf nodes family weight k rows
 
 -- the faces of the skeletons of a block's tree by their numbers, and weights that bound them
 pub record AreKnown (g : Multigraph) (nodes : List Node) (family : List (List (List ℕ))) (faces : List (List ℕ)) (w : Weighing) : Type 0 where

@@ -11,10 +11,10 @@
 // `longest` gives the greatest length and the moves. It numbers the faces of the skeletons by their darts: those of a bond by its kept choice,
 // those of a polygon by its items, two of which meet at each vertex, and those of other nodes, where there are any, by what follows their
 // items in the present rotation system (skel_decompose). The face steps of the block serve for this and tell whether a longest face is
-// there already. With the weights (face_weights) it walks over the nodes from the top, each after its
-// parent, and compares no rotation systems: no copy of the block is made, and no ring is moved. The weights of a node are listed only
-// where a face of it is wanted. The laws are its three parts: weights bound the faces of a block, wanted faces are reached, and a walk from the
-// top leads to a longest face.
+// there already. With the weights (face_weights) it walks over the nodes from the top, each after its parent, and compares no rotation
+// systems: no copy of the block is made, and no ring is moved. Where a face of a node is wanted, the weights of a bond are listed, and those
+// of the faces of a triconnected node. The laws are its three parts: weights bound the faces of a block, wanted faces are reached, and a
+// walk from the top leads to a longest face.
 //
 // The lemmas (module of proofs/ in front):
 //   Lengths    listed-dart, dart-listed: the faces that are listed are those of the darts

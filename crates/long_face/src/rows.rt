@@ -3,9 +3,10 @@
 ghost use Rattle.std.specs.Prelude.{◌<◌, ℕ, List, length, IfOk};
 ghost use Rattle.multigraph.specs.Graph.{Multigraph};
 ghost use Rattle.face_weights.specs.Weights.{weight_of};
-ghost use Rattle.long_face.specs.Ready.{AreKnown, AreRowsOf, AreSomeKnown};
+ghost use Rattle.long_face.specs.Ready.{AreKnown, AreNeeded, AreRowsOf, AreSomeKnown};
 
 use face_weights::{Weights, face_sums};
+use pair_split::Kind;
 use skel_decompose::FlatLists;
 use spqr_tree::Tree;
 use std::alloc::{AllocError, Global};
@@ -58,4 +59,26 @@ pub(crate) fn fill(
     let numbers = faces.at(k as usize);
     face_sums(numbers, &rows.weights, &mut rows.totals, &mut rows.sums)?;
     Ok(())
+}
+
+// Makes of them what a want of node k takes: of a bond the weights, of a triconnected node the sums. In time n log n for n items. Fails only
+// if memory runs out.
+pub(crate) fn fill_for(
+    rows: &mut Rows,
+    tree: &Tree,
+    faces: &FlatLists,
+    weights: &Weights,
+    k: u32,
+) -> Result<(), AllocError>
+    requires known { AreSomeKnown tree.now faces.now weights.now }
+    requires node { k < length tree.now }
+    ensures { IfOk result (λ _. (g : Multigraph) (family : List (List (List ℕ)))
+        → AreKnown g tree.now family faces.now weights.now
+        → AreNeeded tree.now family (weight_of tree.now weights.now) k rows.new) }
+{
+    match tree.kind(k) {
+        Kind::P => weights.of_node(tree, k, &mut rows.weights),
+        Kind::R => fill(rows, tree, faces, weights, k),
+        Kind::S | Kind::B => Ok(()),
+    }
 }

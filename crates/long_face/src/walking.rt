@@ -14,7 +14,7 @@ ghost use Rattle.long_face.specs.Settled.{AreSettled, IsBest, IsSettled, has_wan
 ghost use Rattle.long_face.specs.Walk.{IsAskable, IsAsked};
 
 use crate::links::{link_back, link_to};
-use crate::rows::{Rows, fill, no_rows};
+use crate::rows::{Rows, fill, fill_for, no_rows};
 use crate::wanting::{greatest_want, is_wanted, want_of};
 use crate::wants::Want;
 use face_weights::Weights;
@@ -61,7 +61,7 @@ fn want_below(
 {
     match asked(tree, faces, p, k, above) {
         Some(dart) => {
-            fill(rows, tree, faces, weights, k)?;
+            fill_for(rows, tree, faces, weights, k)?;
             Ok(Some(want_of(tree.kind(k), &rows.weights, &rows.sums, dart)))
         }
         None => Ok(None),

@@ -3,7 +3,7 @@
 ghost use Rattle.std.specs.Prelude.{◌≡◌, ◌≢◌, ◌<◌, ◌≤◌, ◌*◌, ◌/◌, ◌^◌, ◌-◌, ℕ, List, length};
 ghost use Rattle.dart_maps.specs.Map.{twin};
 ghost use Rattle.multigraph.specs.Graph.{Multigraph};
-ghost use Rattle.pair_split.specs.declared.components.Kind.TheVariants.{P};
+ghost use Rattle.pair_split.specs.declared.components.Kind.TheVariants.{P, R};
 ghost use Rattle.long_face.specs.Heaviest.{IsGreatest, IsHeaviest, IsOtherGreatest, number_in};
 ghost use Rattle.long_face.specs.Numbers.{AreFaceNumbers};
 ghost use Rattle.long_face.specs.Wanted.{on_wanted};
@@ -42,12 +42,12 @@ fn other_greatest(numbers: &[u32], place: usize) -> usize
     other
 }
 
-// The heaviest face of the dart: of a node of this kind with items of these weights, the darts of which have faces of these sums.
+// The heaviest face of the dart of a node of this kind: of a bond with items of these weights, and of a triconnected node the darts of which
+// have faces of these sums.
 pub(crate) fn want_of(kind: Kind, weights: &[u32], sums: &[u32], dart: u32) -> Want
-    requires few { length weights.now < 2 ^ 31 }
-    requires several { kind ≡ P → 2 ≤ length weights.now }
-    requires sums { length sums.now ≡ 2 * length weights.now }
-    requires dart { dart < length sums.now }
+    requires bond { kind ≡ P → (length weights.now < 2 ^ 31) × (2 ≤ length weights.now)
+        × (dart < 2 * length weights.now) }
+    requires sides { kind ≡ R → (n : ℕ) × (length sums.now ≡ 2 * n) × (dart < 2 * n) }
     ensures { IsHeaviest kind (length weights.now) (number_in weights.now) (number_in sums.now) dart
         result }
 {

@@ -1,5 +1,5 @@
 use Rattle.std.proofs.Common.{ℕ, List, sym, subst}
-use Rattle.multigraph.specs.Graph.{Multigraph, IsGraph, IsWithinLimits}
+use Rattle.multigraph.specs.Graph.{Multigraph}
 use Rattle.faces.specs.Steps.{AreFaceSteps}
 use Rattle.pair_split.specs.Tutte.{Node}
 use Rattle.skel_embed.specs.Values.{as_moves}
@@ -9,6 +9,7 @@ use Rattle.face_weights.specs.Reached.{AreWeights}
 use Rattle.face_weights.specs.Weights.{weight_of}
 use Rattle.long_face.specs.Present.{AreStepsOf}
 use Rattle.long_face.specs.Longest.{HasFace, IsLongest, NoneLonger}
+use Rattle.long_face.proofs.FaceLengths.{steps-made}
 use Rattle.long_face.proofs.Greatest.{table-bounds, present-family, present-longest}
 use Rattle.long_face.proofs.finding.longest.Goals as goal
 
@@ -21,12 +22,7 @@ present_faces-requires c =
 pub has_face-requires : goal.has_face-requires
 has_face-requires c =
     let s = c.args.p.now in
-    let steps : AreStepsOf s.graph s.rotation c.in_ok-steps.steps.items = record {
-      graph = subst IsGraph c.graph.ensures.value c.keeps_limits.ensures.graph;
-      limits = subst IsWithinLimits c.graph.ensures.value c.keeps_limits.ensures.limits;
-      system = c.belongs.ensures.plane.system;
-      each = subst (λ (z : Multigraph). AreFaceSteps z s.rotation c.in_ok-steps.steps.items) c.graph-2.ensures.value (subst (λ (z : List (List ℕ)). AreFaceSteps c.graph-2.result.now z c.in_ok-steps.steps.items) c.rotation.ensures.value c.in_ok-steps.ensures);
-    } in
+    let steps : AreStepsOf s.graph s.rotation c.in_ok-steps.steps.items = steps-made s.graph c.graph.result.now c.graph-2.result.now s.rotation c.rotation.result.now c.in_ok-steps.steps.items c.keeps_limits.ensures.graph c.keeps_limits.ensures.limits c.graph.ensures.value c.belongs.ensures.plane.system c.in_ok-steps.ensures c.graph-2.ensures.value c.rotation.ensures.value in
     (s.graph, s.rotation, steps)
 
 pub weigh-requires-clause-faces : goal.weigh-requires-clause-faces
@@ -48,12 +44,7 @@ returns-then-branch c =
     subst (λ (z : List Node). KnowFaces z f.0 c.in_ok-faces.faces → AreWeights z f.0 w) c.tree.ensures.value (c.in_ok-weights.ensures f.0) know in
     let none : NoneLonger s.graph len =
     subst (NoneLonger s.graph) (sym c.most-length.ensures) (table-bounds s.graph s.tree f.0 (weight_of s.tree w) w.most c.belongs.ensures.block f.1 know.plane weights.edges weights.table) in
-    let steps : AreStepsOf s.graph s.rotation c.in_ok-steps.steps.items = record {
-      graph = subst IsGraph c.graph.ensures.value c.keeps_limits.ensures.graph;
-      limits = subst IsWithinLimits c.graph.ensures.value c.keeps_limits.ensures.limits;
-      system = c.belongs.ensures.plane.system;
-      each = subst (λ (z : Multigraph). AreFaceSteps z s.rotation c.in_ok-steps.steps.items) c.graph-2.ensures.value (subst (λ (z : List (List ℕ)). AreFaceSteps c.graph-2.result.now z c.in_ok-steps.steps.items) c.rotation.ensures.value c.in_ok-steps.ensures);
-    } in
+    let steps : AreStepsOf s.graph s.rotation c.in_ok-steps.steps.items = steps-made s.graph c.graph.result.now c.graph-2.result.now s.rotation c.rotation.result.now c.in_ok-steps.steps.items c.keeps_limits.ensures.graph c.keeps_limits.ensures.limits c.graph.ensures.value c.belongs.ensures.plane.system c.in_ok-steps.ensures c.graph-2.ensures.value c.rotation.ensures.value in
     let has : HasFace s.graph s.rotation len = c.in_ok-has_face.ensures.found c.if-branch.true s.graph s.rotation steps in
     subst (λ (z : List Move). IsLongest s.graph s.tree s.rotation len (as_moves z)) (sym c.new.ensures.items) (present-longest s.graph s.tree s.rotation len c.belongs.ensures.plane none has)
 
@@ -69,10 +60,5 @@ moves_to_longest-requires-clause-known c =
 pub moves_to_longest-requires-clause-lacks : goal.moves_to_longest-requires-clause-lacks
 moves_to_longest-requires-clause-lacks c = λ h.
     let s = c.args.p.now in
-    let steps : AreStepsOf s.graph s.rotation c.in_ok-steps.steps.items = record {
-      graph = subst IsGraph c.graph.ensures.value c.keeps_limits.ensures.graph;
-      limits = subst IsWithinLimits c.graph.ensures.value c.keeps_limits.ensures.limits;
-      system = c.belongs.ensures.plane.system;
-      each = subst (λ (z : Multigraph). AreFaceSteps z s.rotation c.in_ok-steps.steps.items) c.graph-2.ensures.value (subst (λ (z : List (List ℕ)). AreFaceSteps c.graph-2.result.now z c.in_ok-steps.steps.items) c.rotation.ensures.value c.in_ok-steps.ensures);
-    } in
+    let steps : AreStepsOf s.graph s.rotation c.in_ok-steps.steps.items = steps-made s.graph c.graph.result.now c.graph-2.result.now s.rotation c.rotation.result.now c.in_ok-steps.steps.items c.keeps_limits.ensures.graph c.keeps_limits.ensures.limits c.graph.ensures.value c.belongs.ensures.plane.system c.in_ok-steps.ensures c.graph-2.ensures.value c.rotation.ensures.value in
     c.in_ok-has_face.ensures.none c.if-branch.false s.graph s.rotation steps (subst (HasFace s.graph s.rotation) (sym c.most-length.ensures) h)

@@ -1,8 +1,5 @@
-use Rattle.std.proofs.Common.{◌≡◌, ℕ, List, sym, subst, arith}
-use Rattle.std.proofs.lemmas.Grind.{common_steps}
+use Rattle.std.proofs.Common.{◌≡◌, ℕ, List, subst}
 use Rattle.std.proofs.lemmas.Result.{IfOk-weaker}
-use Rattle.pair_split.specs.Tutte.{components}
-use Rattle.spqr_tree.specs.Keys.{AreOrdered}
 use Rattle.face_weights.specs.Weights.{weight_of}
 use Rattle.long_face.specs.Ready.{AreKnown}
 use Rattle.long_face.specs.Settled.{AreSettled}
