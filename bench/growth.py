@@ -3,10 +3,10 @@
 
 For each kind of bench/kinds.py whose graph is one block, or those named, at 10,000 and at 20,000 vertices: processor time of one command
 on block 0, in milliseconds, at both sizes, their quotient, and the time by that of `faces` at the greater size. The time of a command is
-that of a script with so many that they take a tenth of a second, less that of one without them, by their number; of both the least of N
-runs (5 if none is given), the two sizes by turns. Changing commands come with what leads back: `mirror` alone and with `first` or `undo`,
-`flip` of the greatest triconnected node, `permute` of the greatest bond to the reverse order, and `take` and `convert` of the mirror
-image where a script has room for both rotations.
+that of a script with so many that they take a tenth of a second, less that of a script with one, by the number of commands between; of
+both the least of N runs (5 if none is given), the two sizes by turns. Changing commands come with what leads back: `mirror` alone and
+with `first` or `undo`, `flip` of the greatest triconnected node, `permute` of the greatest bond to the reverse order, and `take` and
+`convert` of the mirror image where a script has room for both rotations.
 
 Stop other work. Times can grow by more than instructions do, where the smaller input fits into a cache and the greater does not, or where
 pages are taken anew for a long answer."""
@@ -72,15 +72,17 @@ def changes(program, path):
 
 
 def many(program, path, command, number):
-    """A script without this command, one with so many that they take a tenth of a second, and how many they are."""
-    none = write("none.spqr", "count 0\n")
-    most = min(20000, (MOST_BYTES - 8) // (len(command) + 1))
-    count, least = 1, seconds(program, path, none)
+    """A script with one of this command, or without it where there is no room for two; one with so many more that they take a tenth of a
+    second; and how many more they are."""
+    room = (MOST_BYTES - 8) // (len(command) + 1)
+    first = min(room - 1, 1)
+    base = write(f"base_{number}.spqr", "count 0\n" + f"{command}\n" * first)
+    count, least = 1, seconds(program, path, base)
     while True:
-        script = write(f"many_{number}.spqr", "count 0\n" + f"{command}\n" * count)
-        if count == most or seconds(program, path, script) - least > 0.1:
-            return none, script, count
-        count = min(4 * count, most)
+        script = write(f"many_{number}.spqr", "count 0\n" + f"{command}\n" * (first + count))
+        if first + count == min(room, 20000) or seconds(program, path, script) - least > 0.1:
+            return base, script, count
+        count = min(4 * count, min(room, 20000) - first)
 
 
 def times(program, paths, commands, runs):
@@ -90,7 +92,7 @@ def times(program, paths, commands, runs):
     for _ in range(runs):
         for own, path, two in zip(least, paths, scripts):
             own[:] = [min(before, seconds(program, path, script)) for before, script in zip(own, two)]
-    return [max(more - none, 0) / count * 1000 for (none, more), (_, _, count) in zip(least, scripts)]
+    return [max(more - base, 0) / count * 1000 for (base, more), (_, _, count) in zip(least, scripts)]
 
 
 def main(program, *words):
