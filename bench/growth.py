@@ -4,9 +4,9 @@
 For each kind of bench/kinds.py whose graph is one block, or those named, at 10,000 and at 20,000 vertices: processor time of one command
 on block 0, in milliseconds, at both sizes, their quotient, and the time by that of `faces` at the greater size. The time of a command is
 that of a script with so many that they take a tenth of a second, less that of a script with one, by the number of commands between; of
-both the least of N runs (5 if none is given), the two sizes by turns. Changing commands come with what leads back: `mirror` alone and
-with `first` or `undo`, `flip` of the greatest triconnected node, `permute` of the greatest bond to the reverse order, and `take` and
-`convert` of the mirror image where a script has room for both rotations.
+both the least of N runs (5 if none is given), the two sizes by turns. Of changing commands there are `mirror`, alone and with `first` or
+`undo` after it, and `flip` of the greatest triconnected node. `permute` of the greatest bond to the reverse order, and `take` and
+`convert` of the mirror image, where a script has room for both rotations, are timed with the command that leads back, as one.
 
 Stop other work. Times can grow by more than instructions do, where the smaller input fits into a cache and the greater does not, or where
 pages are taken anew for a long answer."""
