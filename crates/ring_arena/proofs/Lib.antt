@@ -4,3 +4,4 @@ mod Nodes
 mod Exchanges
 mod Builds
 mod Reversal
+mod Flipped

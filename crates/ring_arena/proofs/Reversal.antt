@@ -1,10 +1,10 @@
 -- A ring that is turned round, node by node.
-use Rattle.std.proofs.Common.{◌≡◌, ◌≢◌, ℕ, suc, ◌+◌, ◌-◌, ◌<◌, ◌≤◌, inl, inr, Bool, true, false, cond, List, length, slice_index, slice_set, refl, sym, ap, ◌∙◌, subst, add-one, arith}
+use Rattle.std.proofs.Common.{◌≡◌, ◌≢◌, ℕ, suc, ◌+◌, ◌-◌, ◌<◌, ◌≤◌, inl, inr, Bool, true, false, cond, List, length, slice_index, slice_set, sym, ap, ◌∙◌, subst, add-one, arith}
 use Rattle.std.proofs.lemmas.Bool.{cases_eq, cases_Bool}
 use Rattle.std.proofs.lemmas.List.{length-set, get_or-set_same, get_or-set_other}
 use Rattle.permutations.specs.Permutation.{Permutes, iterate, reaches, same_orbit}
 use Rattle.permutations.proofs.Relation.{same-tests}
-use Rattle.permutations.proofs.Permutations.{permutes-ext, permutes-inverse}
+use Rattle.permutations.proofs.Permutations.{permutes-ext}
 use Rattle.permutations.proofs.Orbits.{orbit-equivalence, orbit-step, orbit-kept}
 use Rattle.permutations.proofs.Iterates.{iterate-below, iterate-more, iterate-between, iterate-orbit, reaches-from, reaches-steps, orbit-reaches}
 use denote.RawPtr.{Ptr}
@@ -13,7 +13,7 @@ use Rattle.ring_arena.specs.Links.{Links, AreInverse, AreNow, reversed_at}
 use Rattle.ring_arena.specs.Nodes.{links_of, AreNodes, AreTurned}
 
 -- f where the test fails, g where it holds
-abbrev turned : (ℕ → Bool) → (ℕ → ℕ) → (ℕ → ℕ) → ℕ → ℕ
+abbrev pub turned : (ℕ → Bool) → (ℕ → ℕ) → (ℕ → ℕ) → ℕ → ℕ
 turned t f g x = cond (t x) (g x) (f x)
 
 module _ (n : ℕ) (f g : ℕ → ℕ) (perm : Permutes n f g) (d : ℕ) (ld : d < n) where
@@ -55,7 +55,7 @@ module _ (n : ℕ) (f g : ℕ → ℕ) (perm : Permutes n f g) (d : ℕ) (ld : d
     | inr h ↦ rw (h, around-prev x l, h) (perm.forth_back x l)
   ]
 
-  turned-permutes : Permutes n (turned around f g) (turned around g f)
+  pub turned-permutes : Permutes n (turned around f g) (turned around g f)
   turned-permutes = record { forth = turned-below; back = turned-below_back; back_forth = turned-there; forth_back = turned-and_back }
 
   -- so many steps from d on lead round the whole ring, once they lead back
@@ -194,52 +194,3 @@ turn-prev base new_base nodes new k is = ap (λ (p : Ptr). (links_of p new).prev
 
 pub turn-nodes : (base new_base : Ptr) (nodes new : List Node) (k : ℕ) → AreTurned base nodes new_base new k → AreNodes new_base new
 turn-nodes base new_base nodes new k is = subst (λ (p : Ptr). AreNodes p new) (sym is.in_place) is.nodes
-
--- the links after the nodes below k are turned
-pub record AreTurnedBelow (f g : ℕ → ℕ) (n k : ℕ) (links : Links) : Type 0 where
-  pub long_next : length links.next ≡ n
-  pub long_prev : length links.prev ≡ n
-  pub next : (x : ℕ) → x < k → slice_index links.next x ≡ g x
-  pub prev : (x : ℕ) → x < k → slice_index links.prev x ≡ f x
-  pub next_rest : (x : ℕ) → k ≤ x → slice_index links.next x ≡ f x
-  pub prev_rest : (x : ℕ) → k ≤ x → slice_index links.prev x ≡ g x
-
-pub turned-none : (links : Links) → length links.prev ≡ length links.next → AreTurnedBelow (slice_index links.next) (slice_index links.prev) (length links.next) 0 links
-turned-none links long = record {
-  long_next = refl;
-  long_prev = long;
-  next = λ x l. absurd (omega arith);
-  prev = λ x l. absurd (omega arith);
-  next_rest = λ x l. refl;
-  prev_rest = λ x l. refl;
-}
-
--- one node more is turned
-pub turned-next : (f g : ℕ → ℕ) (n k : ℕ) (links new : Links) → k < n → AreTurnedBelow f g n k links → new.next ≡ slice_set links.next k (slice_index links.prev k) → new.prev ≡ slice_set links.prev k (slice_index links.next k)
-    → AreTurnedBelow f g n (k + 1) new
-turned-next f g n k links new lk is en ep = record {
-  long_next = ap length en ∙ length-set links.next k (slice_index links.prev k) ∙ is.long_next;
-  long_prev = ap length ep ∙ length-set links.prev k (slice_index links.next k) ∙ is.long_prev;
-  next = λ x l. ap (λ (q : List ℕ). slice_index q x) en ∙ elim (cases_eq x k) [
-    | inl e ↦ ap (slice_index (slice_set links.next k (slice_index links.prev k))) e ∙ get_or-set_same links.next k (slice_index links.prev k) 0 (subst (λ (z : ℕ). k < z) (sym is.long_next) lk) ∙ is.prev_rest k (omega arith) ∙ ap g (sym e)
-    | inr h ↦ get_or-set_other links.next k x (slice_index links.prev k) 0 h ∙ is.next x (omega (arith, h))
-  ];
-  prev = λ x l. ap (λ (q : List ℕ). slice_index q x) ep ∙ elim (cases_eq x k) [
-    | inl e ↦ ap (slice_index (slice_set links.prev k (slice_index links.next k))) e ∙ get_or-set_same links.prev k (slice_index links.next k) 0 (subst (λ (z : ℕ). k < z) (sym is.long_prev) lk) ∙ is.next_rest k (omega arith) ∙ ap f (sym e)
-    | inr h ↦ get_or-set_other links.prev k x (slice_index links.next k) 0 h ∙ is.prev x (omega (arith, h))
-  ];
-  next_rest = λ x l. ap (λ (q : List ℕ). slice_index q x) en ∙ get_or-set_other links.next k x (slice_index links.prev k) 0 (λ e. absurd (omega (arith, e))) ∙ is.next_rest x (omega arith);
-  prev_rest = λ x l. ap (λ (q : List ℕ). slice_index q x) ep ∙ get_or-set_other links.prev k x (slice_index links.next k) 0 (λ e. absurd (omega (arith, e))) ∙ is.prev_rest x (omega arith);
-}
-
--- all nodes are turned
-pub turned-each : (old links : Links) → AreInverse old → AreTurnedBelow (slice_index old.next) (slice_index old.prev) (length old.next) (length old.next) links → AreNow old links (slice_index old.prev)
-turned-each old links inv is = record {
-  count = is.long_next;
-  behind = is.next;
-  inverse = record {
-    long = is.long_prev ∙ sym is.long_next;
-    permutes = subst (λ (m : ℕ). Permutes m (slice_index links.next) (slice_index links.prev)) (sym is.long_next)
-        (permutes-ext (length old.next) (slice_index old.prev) (slice_index old.next) (slice_index links.next) (slice_index links.prev) (permutes-inverse (length old.next) (slice_index old.next) (slice_index old.prev) inv.permutes) is.next is.prev);
-  };
-}

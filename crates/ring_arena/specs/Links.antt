@@ -1,5 +1,5 @@
 -- Nodes in rings: the numbers below some count, each with the node after it and the node before it.
-use Rattle.std.specs.Prelude.{◌≡◌, ℕ, ◌<◌, cond, ◌==◌, if◌then◌else◌, List, length, slice_index}
+use Rattle.std.specs.Prelude.{◌≡◌, ℕ, Bool, ◌<◌, cond, ◌==◌, if◌then◌else◌, List, length, slice_index}
 use Rattle.permutations.specs.Permutation.{Permutes, same_orbit}
 
 -- the node after each node, and the node before each
@@ -31,3 +31,11 @@ pub record AreAlone (n : ℕ) (links : Links) : Type 0 where
 -- next with d, which is alone, inserted between x and the node after x
 abbrev pub linked_after : ℕ → ℕ → (ℕ → ℕ) → ℕ → ℕ
 linked_after d x next y = (if y == x then d else (if y == d then next x else next y))
+
+-- the rings the other way around: after each node the node that was before it
+abbrev pub flipped : Links → Links
+flipped links = record { next = links.prev; prev = links.next }
+
+-- the rings as they are, or the other way around
+abbrev pub seen : Bool → Links → Links
+seen turned links = cond turned (flipped links) links

@@ -2,13 +2,12 @@
 
 ghost use Rattle.std.specs.Prelude.{◌≡◌, ◌≢◌, ◌<◌, ◌≤◌, length, slice_index, IfOk};
 ghost use Rattle.std.specs.Vec.{vec_ptr, vec_capacity};
-ghost use Rattle.permutations.specs.Exchange.{exchange, unlink};
-ghost use Rattle.ring_arena.specs.Links.{AreInverse, AreNow, AreAlone, linked_after, reversed_at};
+ghost use Rattle.permutations.specs.Exchange.{exchange};
+ghost use Rattle.ring_arena.specs.Links.{AreInverse, AreNow, AreAlone, reversed_at};
 ghost use Rattle.ring_arena.specs.Nodes.{max_nodes, links_of, IsLinked, AreNodes, AreRelinked, AreTurned};
 
 use crate::places::{behind, fits, place};
 use std::alloc::{AllocError, Global};
-use std::fmt;
 use std::marker::Model;
 
 // A node: its number, and the places of the nodes after it and before it. It also holds the number of the node after it, so that
@@ -21,16 +20,13 @@ struct Node {
     prev: *const Node,
 }
 
-/// Nodes 0 to n - 1 in rings.
-///
-/// Viewed as two lists, the node after each node and the node before it; both are permutations, and each is the inverse of the
-/// other. No call but `new` and `copy` takes memory.
+// The nodes 0 to n - 1 in rings, viewed as two lists: the node after each node and the node before it.
 #[derive(Drop)]
-pub struct Rings {
+pub(crate) struct Nodes {
     nodes: Vec<Node>,
 }
 
-impl Model for Rings {
+impl Model for Nodes {
     ghost use Rattle.ring_arena.specs.Links.{Links};
 
     ghost Value = { Links };
@@ -43,9 +39,9 @@ impl Model for Rings {
     ghost invariant = { λ r. KeepRings (vec_ptr r.nodes) r.nodes.items };
 }
 
-impl Rings {
-    /// `n` nodes, at most 100,000, each alone on a ring. Fails only if memory runs out.
-    pub fn new(alloc: Global, n: u32) -> Result<Rings, AllocError>
+impl Nodes {
+    // `n` nodes, at most 100,000, each alone on a ring. Fails only if memory runs out.
+    pub fn new(alloc: Global, n: u32) -> Result<Nodes, AllocError>
         requires { n ≤ max_nodes }
         ensures { IfOk result (AreAlone n) }
     {
@@ -55,11 +51,11 @@ impl Rings {
             nodes.push_reserved(node);
         }
         fits(&nodes);
-        Ok(Rings { nodes })
+        Ok(Nodes { nodes })
     }
 
-    /// A copy, in a block of its own. Fails only if memory runs out.
-    pub fn copy(&self, alloc: Global) -> Result<Rings, AllocError>
+    // A copy, in a block of its own. Fails only if memory runs out.
+    pub fn copy(&self, alloc: Global) -> Result<Nodes, AllocError>
         ensures { IfOk result (λ r. r ≡ self.now) }
     {
         let mut nodes = Vec::with_capacity(alloc, self.len() as usize)?;
@@ -68,17 +64,17 @@ impl Rings {
             nodes.push_reserved(node);
         }
         fits(&nodes);
-        Ok(Rings { nodes })
+        Ok(Nodes { nodes })
     }
 
-    /// The two lists are inverse to each other. For proofs alone: does nothing.
+    // The two lists are inverse to each other. For proofs alone: does nothing.
     pub fn keeps_rings(&self)
         ensures { AreInverse self.now }
     {
         let _ = self.len();
     }
 
-    /// The number of nodes.
+    // The number of nodes.
     pub fn len(&self) -> u32
         ensures value { result ≡ length self.now.next }
         ensures few { result ≤ max_nodes }
@@ -87,7 +83,7 @@ impl Rings {
         self.nodes.len() as u32
     }
 
-    /// The node after node `d` on its ring.
+    // The node after node `d` on its ring.
     pub fn next(&self, d: u32) -> u32
         requires { d < length self.now.next }
         ensures value { result ≡ slice_index self.now.next d }
@@ -96,7 +92,7 @@ impl Rings {
         self.nodes[d as usize].after
     }
 
-    /// The node before node `d` on its ring.
+    // The node before node `d` on its ring.
     pub fn prev(&self, d: u32) -> u32
         requires { d < length self.now.next }
         ensures value { result ≡ slice_index self.now.prev d }
@@ -105,7 +101,7 @@ impl Rings {
         behind(&self.nodes, self.nodes[d as usize].prev).number
     }
 
-    /// Exchanges the nodes after `a` and `b`: two rings become one, or one becomes two. Nothing changes where `a` is `b`.
+    // Exchanges the nodes after `a` and `b`: two rings become one, or one becomes two. Nothing changes where `a` is `b`.
     pub fn exchange(&mut self, a: u32, b: u32)
         requires first { a < length self.old.next }
         requires second { b < length self.old.next }
@@ -117,29 +113,7 @@ impl Rings {
         link(&mut self.nodes, b, behind_a);
     }
 
-    /// Takes node `d` out of its ring: it is alone then, and the nodes before and after it are adjacent.
-    /// For callers of the library: the program does not call it.
-    pub fn unlink(&mut self, d: u32)
-        requires { d < length self.old.next }
-        ensures { AreNow self.old self.new (unlink d (slice_index self.old.next)) }
-    {
-        let _ = &self.nodes;
-        let before = self.prev(d);
-        self.exchange(before, d);
-    }
-
-    /// Inserts node `d`, which is alone, after node `x`: it is between `x` and the node that was after `x`.
-    pub fn link_after(&mut self, d: u32, x: u32)
-        requires node { d < length self.old.next }
-        requires place { x < length self.old.next }
-        requires alone { slice_index self.old.next d ≡ d }
-        requires other { d ≢ x }
-        ensures { AreNow self.old self.new (linked_after d x (slice_index self.old.next)) }
-    {
-        self.exchange(x, d);
-    }
-
-    /// Reverses the ring of `d`: after each of its nodes comes the node that was before it. Other rings are unchanged.
+    // Reverses the ring of `d`: after each of its nodes comes the node that was before it. Other rings are unchanged.
     pub fn reverse(&mut self, d: u32)
         requires { d < length self.old.next }
         ensures { AreNow self.old self.new (reversed_at self.old d) }
@@ -151,21 +125,6 @@ impl Rings {
                 break;
             }
         }
-    }
-
-    /// Reverses every ring: after each node comes the node that was before it. In one pass over the nodes.
-    pub fn reverse_all(&mut self)
-        ensures { AreNow self.old self.new (slice_index self.old.prev) }
-    {
-        for k in 0..self.nodes.len() {
-            let _ = turn(&mut self.nodes, k);
-        }
-    }
-}
-
-impl fmt::Debug for Rings {
-    fn fmt<W: fmt::Write>(&self, f: &mut fmt::Formatter<W>) -> fmt::Result {
-        write!(f, "Rings of {} nodes", self.len())
     }
 }
 

@@ -5,7 +5,7 @@ use Rattle.ring_arena.specs.Links.{Links, AreInverse}
 use Rattle.ring_arena.specs.Nodes.{links_of}
 use Rattle.ring_arena.proofs.Nodes.{next-long}
 use Rattle.ring_arena.proofs.Reversal.{AreTurnedSoFar, turned-more, turning-more, next-step, turned_back, turned_through, turn-next, turn-prev, turn-nodes}
-use Rattle.ring_arena.proofs.arena.Rings.reverse.Goals as goal
+use Rattle.ring_arena.proofs.arena.Nodes.reverse.Goals as goal
 
 pub turn-at-requires-clause-node : goal.turn-at-requires-clause-node
 turn-at-requires-clause-node c =

@@ -1,7 +1,7 @@
 use Rattle.std.proofs.Common.{◌≡◌, ◌≤◌, length, slice_index}
 use Rattle.std.specs.Vec.{vec_ptr, vec_capacity}
 use Rattle.ring_arena.proofs.Builds.{AreBuilt}
-use Rattle.ring_arena.proofs.arena.Rings.copy.Given as goal
+use Rattle.ring_arena.proofs.arena.Nodes.copy.Given as goal
 
 -- the nodes so far stand as they do here
 abbrev pub invariant-loop-d : goal.invariant-loop-d

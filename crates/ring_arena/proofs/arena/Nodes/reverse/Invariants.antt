@@ -2,7 +2,7 @@ use Rattle.std.proofs.Common.{length, slice_index}
 use Rattle.std.specs.Vec.{vec_ptr}
 use Rattle.ring_arena.specs.Nodes.{links_of, AreNodes}
 use Rattle.ring_arena.proofs.Reversal.{IsTurning}
-use Rattle.ring_arena.proofs.arena.Rings.reverse.Given as goal
+use Rattle.ring_arena.proofs.arena.Nodes.reverse.Given as goal
 
 -- so many nodes of the ring are turned, and the walk has not come back
 abbrev pub invariant-loop : goal.invariant-loop

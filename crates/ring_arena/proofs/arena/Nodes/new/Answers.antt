@@ -1,7 +1,7 @@
 use Rattle.std.proofs.Common.{◌≡◌, ℕ, ◌+◌, [], ◌∷◌, ap, ◌∙◌, length, length-append, arith}
 use Rattle.std.specs.Vec.{vec_ptr}
 use Rattle.ring_arena.proofs.Builds.{built-more, built-alone, alone-kept}
-use Rattle.ring_arena.proofs.arena.Rings.new.Goals as goal
+use Rattle.ring_arena.proofs.arena.Nodes.new.Goals as goal
 
 pub loop-d-preserved : goal.loop-d-preserved
 loop-d-preserved c = record {

@@ -1,6 +1,6 @@
 use Rattle.std.specs.Vec.{vec_ptr}
 use Rattle.ring_arena.proofs.Exchanges.{exchanged_nodes, exchanged-kept}
-use Rattle.ring_arena.proofs.arena.Rings.exchange.Goals as goal
+use Rattle.ring_arena.proofs.arena.Nodes.exchange.Goals as goal
 
 pub returns : goal.returns
 returns c = exchanged_nodes (vec_ptr c.self.inside.nodes) (vec_ptr c.link.new.nodes) (vec_ptr c.link-2.new.nodes) c.self.inside.nodes.items c.link.new.nodes.items c.link-2.new.nodes.items c.args.self.now

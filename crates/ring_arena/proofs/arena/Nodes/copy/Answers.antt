@@ -2,7 +2,7 @@ use Rattle.std.proofs.Common.{◌≡◌, ℕ, ◌+◌, ◌≤◌, [], ◌∷◌,
 use Rattle.std.specs.Vec.{vec_ptr}
 use Rattle.ring_arena.specs.Nodes.{max_nodes, IsLinked}
 use Rattle.ring_arena.proofs.Builds.{built-more, built-copy, copy-kept}
-use Rattle.ring_arena.proofs.arena.Rings.copy.Goals as goal
+use Rattle.ring_arena.proofs.arena.Nodes.copy.Goals as goal
 
 pub loop-d-preserved : goal.loop-d-preserved
 loop-d-preserved c =

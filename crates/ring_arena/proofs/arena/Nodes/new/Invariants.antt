@@ -1,7 +1,7 @@
 use Rattle.std.proofs.Common.{◌≡◌, ◌≤◌, length}
 use Rattle.std.specs.Vec.{vec_ptr, vec_capacity}
 use Rattle.ring_arena.proofs.Builds.{AreBuilt}
-use Rattle.ring_arena.proofs.arena.Rings.new.Given as goal
+use Rattle.ring_arena.proofs.arena.Nodes.new.Given as goal
 
 -- the nodes so far are alone
 abbrev pub invariant-loop-d : goal.invariant-loop-d

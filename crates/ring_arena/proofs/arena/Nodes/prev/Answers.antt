@@ -2,7 +2,7 @@ use Rattle.std.proofs.Common.{sym, ap, ◌∙◌, subst, ◌<◌, ℕ, slice_ind
 use Rattle.std.specs.Vec.{vec_ptr}
 use Rattle.ring_arena.specs.Nodes.{number_at}
 use Rattle.ring_arena.proofs.Nodes.{read_item, next-long, before_number}
-use Rattle.ring_arena.proofs.arena.Rings.prev.Goals as goal
+use Rattle.ring_arena.proofs.arena.Nodes.prev.Goals as goal
 
 pub behind-requires : goal.behind-requires
 behind-requires c =

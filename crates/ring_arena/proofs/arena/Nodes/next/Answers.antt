@@ -1,7 +1,7 @@
 use Rattle.std.proofs.Common.{sym, ap, ◌∙◌, subst, ◌<◌, ℕ, slice_index, length}
 use Rattle.std.specs.Vec.{vec_ptr}
 use Rattle.ring_arena.proofs.Nodes.{read_item, next-long, after_number}
-use Rattle.ring_arena.proofs.arena.Rings.next.Goals as goal
+use Rattle.ring_arena.proofs.arena.Nodes.next.Goals as goal
 
 pub returns-clause-value : goal.returns-clause-value
 returns-clause-value c =
