@@ -1,5 +1,5 @@
 -- The walk round a vertex gives its edges in cyclic order.
-use Rattle.std.proofs.Common.{◌≡◌, ℕ, true, false, List, [], ◌∷◌, ◌++◌, length, get_or, refl, sym, ap, ◌∙◌, subst, append_assoc}
+use Rattle.std.proofs.Common.{◌≡◌, ◌≢◌, ℕ, zero, suc, ◌-◌, ◌/◌, true, false, List, [], ◌∷◌, ◌++◌, length, get_or, refl, sym, ap, ◌∙◌, subst, append_assoc, arith}
 use Rattle.std.proofs.lemmas.Bool.{both_ways, false_from_ne_true}
 use Rattle.permutations.specs.Members.{is_member, is_distinct}
 use Rattle.permutations.specs.Cyclic.{first_or, successor}
@@ -29,3 +29,11 @@ walk tails next prev v order front (y ∷ ys) z is round linked =
 -- the whole round, from the first edge on
 pub turns-order : (tails next prev : List ℕ) (v : ℕ) (order : List ℕ) → StandRound tails v order → AreLinked tails next prev v order order → turns next (dart_at tails v (first_or 0 order)) (length order) ≡ order
 turns-order tails next prev v order round linked = walk tails next prev v order [] order 0 refl round linked
+
+-- a walk that is read as far as a dart, and one edge further
+pub walk-more : (next : List ℕ) (start degree dart left : ℕ) (round new : List ℕ) → left ≢ 0 → round ++ turns next dart left ≡ turns next start degree → new ≡ round ++ (dart / 2) ∷ []
+    → new ++ turns next (get_or next dart 0) (left - 1) ≡ turns next start degree
+walk-more next start degree dart zero round new some is e = absurd (some refl)
+walk-more next start degree dart (suc left) round new some is e =
+    let one_less : suc left - 1 ≡ left = omega arith in
+    rw one_less (ap (λ (l : List ℕ). l ++ turns next (get_or next dart 0) left) e ∙ append_assoc round ((dart / 2) ∷ []) (turns next (get_or next dart 0) left) ∙ is)

@@ -1,10 +1,12 @@
 // The walk around a vertex.
 
-ghost use Rattle.std.specs.Prelude.{◌≡◌, ◌<◌, length};
+ghost use Rattle.std.specs.Prelude.{◌≡◌, ◌<◌, ℕ, length, slice_index, IfOk};
 ghost use Rattle.std.specs.Iterator.{YieldsFirst, item_count};
 ghost use Rattle.permutations.specs.Ring.{turns};
 
+use crate::rings::Ring;
 use ring_arena::Rings;
+use std::alloc::AllocError;
 use std::marker::Model;
 
 /// The edges around a vertex in cyclic order, viewed as the list of those that are left.
@@ -52,4 +54,21 @@ impl<'a> Iterator for RotIter<'a> {
         self.left -= 1;
         Some(dart / 2)
     }
+}
+
+// Makes `round` the edges of a ring, where the list has the dart after each dart.
+pub(crate) fn walk_ring(next: &[u32], ring: Ring, round: &mut Vec<u32>) -> Result<(), AllocError>
+    requires begins { 0 < ring.degree → ring.first < length next.now }
+    requires leads { (d : ℕ) → d < length next.now → slice_index next.now d < length next.now }
+    ensures { IfOk result (λ _. round.new.items ≡ turns next.now ring.first ring.degree) }
+{
+    round.clear();
+    let mut dart = ring.first;
+    let mut left = ring.degree;
+    while left != 0 {
+        round.push(dart / 2)?;
+        dart = next[dart as usize];
+        left -= 1;
+    }
+    Ok(())
 }

@@ -15,8 +15,8 @@ use crate::faults::RotFault;
 use crate::linking::link;
 use crate::outer::{check_part, inner_lists};
 use crate::rings::{Frame, dart_at, ring_of, tails_of};
-use crate::round::RotIter;
-use multigraph::{Graph, Part, dart_count};
+use crate::round::{RotIter, walk_ring};
+use multigraph::{FlatLists, Graph, Part, dart_count};
 use ring_arena::Rings;
 use std::alloc::{AllocError, Global};
 use std::marker::Model;
@@ -136,6 +136,20 @@ impl Rotation {
     {
         let ring = self.frame.rings[v as usize];
         RotIter::from(&self.nodes, ring.first, ring.degree)
+    }
+
+    /// The edges around each vertex in cyclic order, each list from the least on. In linear time. Fails only if memory runs out.
+    pub fn lists(&self, alloc: Global) -> Result<FlatLists<u32>, AllocError>
+        ensures { IfOk result (λ lists. lists ≡ self.now) }
+    {
+        let next = self.nodes.list_next(alloc)?;
+        let mut lists = FlatLists::with_capacity(alloc, self.frame.rings.len())?;
+        let mut round = Vec::new(alloc);
+        for ring in &self.frame.rings {
+            walk_ring(&next, *ring, &mut round)?;
+            lists.push(&round)?;
+        }
+        Ok(lists)
     }
 
     /// The rings on which it is kept, with two nodes for each edge e, 2e and 2e + 1, one at each of its ends.
