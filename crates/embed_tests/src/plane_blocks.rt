@@ -4,11 +4,12 @@ ghost use Rattle.std.specs.Prelude.{◌≡◌, IfOk};
 
 use blocks::is_one_block;
 use contract_embed::ContractEmbedder;
-use kuratowski::Subdivision;
 use multigraph::{Graph, Numbers, Part};
 use pair_split::{Kind, PairSplitter, Splitter};
 use rotations::Lists;
-use skel_embed::{BySkeletons, Outcome, PlaneBlock, TakeFault, embed_by_skeletons, plane_block};
+use skel_embed::{
+    BySkeletons, NonplanarBlock, Outcome, PlaneBlock, TakeFault, embed_by_skeletons, plane_block,
+};
 use spqr_tree::Tree;
 use std::alloc::Global;
 use std::test::Fail;
@@ -258,7 +259,7 @@ fn block_in(alloc: Global, part: &Part) -> Result<PlaneBlock, Fail>
     let tree = Tree::assemble(alloc, &graph, comps)?;
     match plane_block(alloc, graph, tree, &mut ContractEmbedder)? {
         Outcome::Plane(block) => Ok(block),
-        Outcome::Not(..) => Err(Fail::from("not plane")),
+        Outcome::Not(_) => Err(Fail::from("not plane")),
     }
 }
 
@@ -330,12 +331,12 @@ static SUBDIVIDED: [(u32, u32); 11] = [
     (3, 4),
 ];
 
-// The subdivision that keeps the block of these edges from the plane; nothing where it is no block, or in the plane.
-fn subdivision_of(
+// The block of these edges with the subdivision that keeps it from the plane; nothing where it is no block, or in the plane.
+fn nonplanar_block(
     alloc: Global,
     vertices: u32,
     ends: &[(u32, u32)],
-) -> Result<Option<Subdivision>, Fail> {
+) -> Result<Option<NonplanarBlock>, Fail> {
     let Ok(graph) = Graph::build(alloc, vertices, ends) else {
         return Err(Fail::from("no graph"));
     };
@@ -346,7 +347,7 @@ fn subdivision_of(
     let tree = Tree::assemble(alloc, &graph, comps)?;
     match plane_block(alloc, graph, tree, &mut ContractEmbedder)? {
         Outcome::Plane(_) => Ok(None),
-        Outcome::Not(_, _, s) => Ok(Some(s)),
+        Outcome::Not(block) => Ok(Some(block)),
     }
 }
 
@@ -365,7 +366,7 @@ fn are_paths(found: &[Numbers], paths: &[&[u32]]) -> bool {
 
 #[test]
 fn finds_subdivision_in_edges_of_block(rt: HostRuntime) -> Result<(), Fail> {
-    let Some(s) = subdivision_of(rt.alloc(), 6, &SUBDIVIDED)? else {
+    let Some(block) = nonplanar_block(rt.alloc(), 6, &SUBDIVIDED)? else {
         return Err(Fail::from("plane"));
     };
     let branch: &[u32] = &[0, 1, 2, 3, 4];
@@ -381,8 +382,11 @@ fn finds_subdivision_in_edges_of_block(rt: HostRuntime) -> Result<(), Fail> {
         &[9],
         &[10],
     ];
-    assert!(rt; s.branch.as_slice() == branch);
-    assert!(rt; are_paths(s.paths.as_slice(), &paths));
-    assert!(rt; subdivision_of(rt.alloc(), ROWS[0].vertices, ROWS[0].ends)?.is_none());
+    let copy = block.copy()?;
+    assert!(rt; copy.graph().edge_count() == 11);
+    assert!(rt; copy.tree().node_count() == 2);
+    assert!(rt; copy.certificate().branch.as_slice() == branch);
+    assert!(rt; are_paths(copy.certificate().paths.as_slice(), &paths));
+    assert!(rt; nonplanar_block(rt.alloc(), ROWS[0].vertices, ROWS[0].ends)?.is_none());
     Ok(())
 }

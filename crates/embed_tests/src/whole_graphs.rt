@@ -45,7 +45,7 @@ fn member_of(
                 plane: Some(plane),
             }))
         }
-        Outcome::Not(..) => Ok(None),
+        Outcome::Not(_) => Ok(None),
     }
 }
 

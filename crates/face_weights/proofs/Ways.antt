@@ -39,19 +39,6 @@ way-more : (parents : List ℕ) (k : ℕ) (way : List ℕ) (x : ℕ) → IsWay p
 way-more parents k [] x w = (w, refl)
 way-more parents k (y ∷ way) x w = (w.0, way-more parents (parent_at parents y) way x w.1)
 
--- the climb begins
-pub climbing-starts : (parents : List ℕ) (k : ℕ) (old : List Bool) → k < length parents → IsClimbing parents k old old [] k
-climbing-starts parents k old l = record {
-  number = refl;
-  way = refl;
-  distinct = refl;
-  within = λ y m. no-member y m;
-  unplaced = λ y m. no-member y m;
-  placed = λ y. sym (or-false (is_marked old y));
-  inside = inr l;
-  above = λ rank f n y m. no-member y m;
-}
-
 -- and continues at the parent
 module _ (parents : List ℕ) (k : ℕ) (old now : List Bool) (way : List ℕ) (x : ℕ) (c : IsClimbing parents k old now way x) (n : x ≢ absent) (u : is_marked now x ≡ false) where
   -- the node is one
@@ -156,15 +143,6 @@ pub record AreListed (parents : List ℕ) (placed : List Bool) (order : List ℕ
   pub marks : (y : ℕ) → is_marked placed y ≡ is_member y order
   pub first : (j : ℕ) → j < k → is_member j order ≡ true
 
--- nothing is on it
-pub listed-none : (parents : List ℕ) (placed : List Bool) → length placed ≡ length parents → ((y : ℕ) → is_marked placed y ≡ false) → AreListed parents placed [] 0
-listed-none parents placed n u = record {
-  down = record { within = λ q m. absurd (omega (arith, m)); distinct = refl; after = λ q m. absurd (omega (arith, m)) };
-  number = n;
-  marks = u;
-  first = λ j m. absurd (omega (arith, m));
-}
-
 -- one node more, and those above it
 pub listed-more : (parents : List ℕ) (placed new : List Bool) (order way : List ℕ) (k : ℕ) → AreListed parents placed order k → k < length parents → length parents < absent → IsClimbed parents k placed new way → AreListed parents new (order ++ reverse way) (k + 1)
 listed-more parents placed new order way k a l few c = record {
@@ -191,30 +169,3 @@ listed-more parents placed new order way k a l few c = record {
       where
         none : k ≡ absent → ⊥
         none e = omega (arith, e, l, few)
-
--- those of the rest of the list that are not placed, where this one is, and where it is not
-module _ (placed : List Bool) (order list : List ℕ) (i : ℕ) (l : i < length order) where
-  others-rest : others_of placed (drop i order) ≡ cond (is_marked placed (slice_index_or order i 0)) (others_of placed (drop (i + 1) order)) (slice_index_or order i 0 ∷ others_of placed (drop (i + 1) order))
-  others-rest =
-      let e : suc i ≡ i + 1 = omega arith in
-      ap (others_of placed) (drop-cons order i 0 l) ∙ ap (λ n. cond (is_marked placed (slice_index_or order i 0)) (others_of placed (drop n order)) (slice_index_or order i 0 ∷ others_of placed (drop n order))) e
-
-  pub others-kept : is_marked placed (slice_index_or order i 0) ≡ true → (list ++ others_of placed (drop (i + 1) order)) ≡ (list ++ others_of placed (drop i order))
-  others-kept m = ap (λ (z : List ℕ). list ++ z) (sym (others-rest ∙ ap (λ (b : Bool). cond b (others_of placed (drop (i + 1) order)) (slice_index_or order i 0 ∷ others_of placed (drop (i + 1) order))) m))
-
-  pub others-more : is_marked placed (slice_index_or order i 0) ≡ false → ((list ++ slice_index_or order i 0 ∷ []) ++ others_of placed (drop (i + 1) order)) ≡ (list ++ others_of placed (drop i order))
-  others-more m = append_assoc list (slice_index_or order i 0 ∷ []) (others_of placed (drop (i + 1) order))
-      ∙ ap (λ (z : List ℕ). list ++ z) (sym (others-rest ∙ ap (λ (b : Bool). cond b (others_of placed (drop (i + 1) order)) (slice_index_or order i 0 ∷ others_of placed (drop (i + 1) order))) m))
-
--- all have been looked at
-pub others-all : (placed : List Bool) (order list : List ℕ) (i : ℕ) → length order ≤ i → (list ++ others_of placed (drop i order)) ≡ list
-others-all placed order list i l = ap (λ (z : List ℕ). list ++ others_of placed z) (drop_all i order l) ∙ append-nil list
-
--- one of the way more is turned
-pub turned-more : (parents way : List ℕ) (below i : ℕ) → i < length way → turned parents below (drop i way) ≡ turned (slice_set parents (slice_index_or way i 0) below) (slice_index_or way i 0) (drop (i + 1) way)
-turned-more parents way below i l =
-    let e : suc i ≡ i + 1 = omega arith in
-    ap (turned parents below) (drop-cons way i 0 l) ∙ ap (λ n. turned (slice_set parents (slice_index_or way i 0) below) (slice_index_or way i 0) (drop n way)) e
-
-pub turned-all : (parents way : List ℕ) (below i : ℕ) → length way ≤ i → turned parents below (drop i way) ≡ parents
-turned-all parents way below i l = ap (turned parents below) (drop_all i way l)

@@ -15,7 +15,7 @@ pub record AreDown (parents order : List ℕ) : Type 0 where
   pub distinct : is_distinct order ≡ true
   pub after : (q : ℕ) → q < length order → (parent_at parents (slice_index_or order q 0) ≡ absent) ⊎ ((h : ℕ) × (h < q) × (slice_index_or order h 0 ≡ parent_at parents (slice_index_or order q 0)))
 
--- the way up from node k, on which each node is followed by its parent, to `next`, which is not on it
+-- the way up from node k, on which each node is followed by its parent; `next` is the parent of its last node, and k where it has none
 abbrev pub IsWay : List ℕ → ℕ → List ℕ → ℕ → Type 0
 IsWay parents k [] next = next ≡ k
 IsWay parents k (x ∷ way) next = (x ≡ k) × IsWay parents (parent_at parents x) way next

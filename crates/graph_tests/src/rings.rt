@@ -1,4 +1,4 @@
-// The calls on four nodes one after the other, the nodes after and before each node after each call, and a copy.
+// The calls on four nodes one after the other, the nodes after and before each node after each call, a copy, and a list.
 
 use ring_arena::Rings;
 use std::test::Fail;
@@ -55,7 +55,7 @@ fn links(r: &Rings) -> ([u32; 4], [u32; 4]) {
 }
 
 // Calls one after the other, each with the nodes after and before each node then.
-static CALLS: [(Call, [u32; 4], [u32; 4]); 7] = [
+static CALLS: [(Call, [u32; 4], [u32; 4]); 10] = [
     (Call::Exchange(0, 1), [1, 0, 2, 3], [1, 0, 2, 3]),
     (Call::Exchange(1, 2), [1, 2, 0, 3], [2, 0, 1, 3]),
     (Call::Reverse(0), [2, 0, 1, 3], [1, 2, 0, 3]),
@@ -63,6 +63,9 @@ static CALLS: [(Call, [u32; 4], [u32; 4]); 7] = [
     (Call::LinkAfter(2, 0), [2, 0, 1, 3], [1, 2, 0, 3]),
     (Call::Exchange(3, 3), [2, 0, 1, 3], [1, 2, 0, 3]),
     (Call::ReverseAll, [1, 2, 0, 3], [2, 0, 1, 3]),
+    (Call::Exchange(0, 3), [3, 2, 0, 1], [2, 3, 1, 0]),
+    (Call::Unlink(1), [3, 1, 0, 2], [2, 1, 3, 0]),
+    (Call::ReverseAll, [2, 1, 3, 0], [3, 1, 0, 2]),
 ];
 
 #[test]
@@ -76,8 +79,10 @@ fn changes_rings(rt: HostRuntime) -> Result<(), Fail> {
         assert_eq!(rt; links(&r), (*next, *prev));
     }
     let copy = r.copy(alloc)?;
-    make(&mut r, Call::Reverse(1));
-    assert_eq!(rt; links(&r), ([2, 0, 1, 3], [1, 2, 0, 3]));
-    assert_eq!(rt; links(&copy), ([1, 2, 0, 3], [2, 0, 1, 3]));
+    make(&mut r, Call::Reverse(0));
+    assert_eq!(rt; links(&r), ([3, 1, 0, 2], [2, 1, 3, 0]));
+    assert_eq!(rt; links(&copy), ([2, 1, 3, 0], [3, 1, 0, 2]));
+    let next: &[u32] = &[2, 1, 3, 0];
+    assert!(rt; copy.list_next(alloc)?.as_slice() == next);
     Ok(())
 }

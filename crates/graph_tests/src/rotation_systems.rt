@@ -252,6 +252,10 @@ fn moves_and_turns_runs(rt: HostRuntime) -> Result<(), Fail> {
             let order: Vec<u32> = r.list(v).collect(alloc)?;
             assert_eq!(rt; order.as_slice(), *expected);
         }
+        let lists = r.lists(alloc)?;
+        if (v as usize) < lists.len() {
+            assert_eq!(rt; lists.at(v as usize), *expected);
+        }
     }
     // The node of an edge at its first end has twice the number of the edge, the one at its second end follows.
     let nodes = r.rings();

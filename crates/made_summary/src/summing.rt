@@ -99,6 +99,6 @@ pub fn summary<P: Splitter, E: Embedder>(
     let tree = Tree::assemble(alloc, &graph, comps)?;
     match plane_block(alloc, graph, tree, embedder)? {
         Outcome::Plane(block) => summary_of(alloc, &block),
-        Outcome::Not(_, _, _) => unreachable!(),
+        Outcome::Not(_) => unreachable!(),
     }
 }

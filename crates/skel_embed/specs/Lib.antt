@@ -4,6 +4,7 @@ pub mod Block
 pub mod Fan
 pub mod Members
 pub mod Outcomes
+pub mod Nonplanar
 pub mod Planes
 pub mod Steps
 pub mod Exchanges

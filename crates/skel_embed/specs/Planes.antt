@@ -12,4 +12,4 @@ use Rattle.skel_embed.specs.declared.planes.Outcome.TheVariants.{Plane, Not}
 -- subdivision of K5 or K3,3 in written form in the graph
 abbrev pub IsOutcome : Multigraph → List Node → Outcome → Type 0
 IsOutcome g nodes (Plane p) = (p.graph ≡ g) × (p.tree ≡ nodes) × IsFirst g nodes p.rotation × ((k : ℕ) → k < length nodes → lock_at p.locks k ≡ false)
-IsOutcome g nodes (Not h t s) = (h ≡ g) × (t ≡ nodes) × IsWritten g s.kind s.branch s.paths
+IsOutcome g nodes (Not b) = (b.graph ≡ g) × (b.tree ≡ nodes) × IsWritten g b.certificate.kind b.certificate.branch b.certificate.paths

@@ -5,9 +5,9 @@ ghost use Rattle.skeletons.specs.Items.{IsBlockTree};
 ghost use Rattle.skel_embed.specs.Planes.{IsOutcome};
 
 use crate::blocks_in_plane::{BySkeletons, embed_by_skeletons};
+use crate::nonplanar::NonplanarBlock;
 use crate::state::PlaneBlock;
 use block_obstruct::obstruct_block;
-use kuratowski::Subdivision;
 use multigraph::Graph;
 use planarity::Embedder;
 use spqr_tree::Tree;
@@ -18,8 +18,8 @@ use std::alloc::{AllocError, Global};
 pub enum Outcome {
     /// The block, at its first plane rotation system.
     Plane(PlaneBlock),
-    /// The graph, the tree, and a subdivision of K5 or K3,3 in the block, along its own edges.
-    Not(Graph, Tree, Subdivision),
+    /// The block with a subdivision of K5 or K3,3 in it.
+    Not(NonplanarBlock),
 }
 
 /// Embeds a block, or finds what makes it nonplanar. The rotation system of the block is then a plane one that no plane rotation
@@ -47,7 +47,7 @@ pub fn plane_block<E: Embedder>(
             subdivision,
         } => {
             let found = obstruct_block(alloc, &graph, &tree, node, &skeleton, &subdivision)?;
-            Ok(Outcome::Not(graph, tree, found))
+            Ok(Outcome::Not(NonplanarBlock::new(alloc, graph, tree, found)?))
         }
     }
 }

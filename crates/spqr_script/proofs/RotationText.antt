@@ -8,15 +8,6 @@ use Rattle.rotations.specs.Rotation.{order_at}
 use Rattle.spqr_script.specs.Text.{spaced_numbers}
 use Rattle.spqr_script.specs.Answers.Rotation.{entry_text, entries_text, outer_entries}
 
--- one edge more
-pub round-more : (name : ℕ → ℕ) (so_far spaced longer due round rest : List ℕ) (e : ℕ) → round ≡ e ∷ rest → so_far ++ spaced_numbers (map name round) ≡ due → spaced ≡ so_far ++ codes " " → longer ≡ spaced ++ decimal (name e)
-    → longer ++ spaced_numbers (map name rest) ≡ due
-round-more name so_far spaced longer due round rest e first is blank then =
-    let behind : List ℕ = spaced_numbers (map name rest) in
-    ap (λ (t : List ℕ). t ++ behind) (then ∙ ap (λ (t : List ℕ). t ++ decimal (name e)) blank ∙ append_assoc so_far (codes " ") (decimal (name e)))
-    ∙ append_assoc so_far (codes " " ++ decimal (name e)) behind
-    ∙ ap (λ (es : List ℕ). so_far ++ spaced_numbers (map name es)) (sym first) ∙ is
-
 -- vertex v of a part with its cyclic order, as an entry
 abbrev pub outer_entry : GraphPart → List (List ℕ) → ℕ → ℕ × List ℕ
 outer_entry part orders v = (slice_index part.vertices v, map (slice_index part.edges) (order_at orders v))

@@ -30,10 +30,10 @@ module _ (excludes : SubdivisionExcludesPlane) (part : GraphPart) (nodes : List 
     certificate = (p.rotation, h.2.plane);
     entry = (h.2.plane, state.locks);
   }
-  outcome-embedded (Not g t s) state h = record {
+  outcome-embedded (Not b) state h = record {
     graph = h.0;
     tree = subst (IsBlockTree part.graph) (sym h.1) tree;
-    certificate = (h.2, λ r q. excludes part.graph r tree.graph q.system q.plane s.kind s.branch s.paths h.2.subdivision);
+    certificate = (h.2, λ r q. excludes part.graph r tree.graph q.system q.plane b.certificate.kind b.certificate.branch b.certificate.paths h.2.subdivision);
     entry = tt;
   }
 
@@ -43,11 +43,11 @@ module _ (excludes : SubdivisionExcludesPlane) (part : GraphPart) (nodes : List 
     subst (λ (t : List Node). IsFirst part.graph t p.rotation) (sym h.1) h.2,
     none-locked (length p.tree) p.locks state.locks (λ k l. h.3 k (subst (λ (t : List Node). k < length t) h.1 l)),
   )
-  outcome-first (Not g t s) state h = tt
+  outcome-first (Not b) state h = tt
 
   outcome-nodes : (outcome : Outcome) → IsOutcome part.graph nodes outcome → (block_view part outcome).tree ≡ record { part = part; nodes = nodes }
   outcome-nodes (Plane p) h = λ i. record { part = part; nodes = h.1 i }
-  outcome-nodes (Not g t s) h = λ i. record { part = part; nodes = h.1 i }
+  outcome-nodes (Not b) h = λ i. record { part = part; nodes = h.1 i }
 
   pub outcome-starts : (g : Multigraph) (edges : List ℕ) (outcome : Outcome) → KeepsTogether outcome → IsOutcome part.graph nodes outcome → trees.IsBlockTree g edges (record { part = part; nodes = nodes })
       → IsStartBlock None g edges (block_view part outcome)
@@ -65,7 +65,7 @@ found-of g edges part (Plane p) right start = record {
   tree = start.tree.nodes;
   found = (right.graph, refl, start.starts.0, λ k l. ap (λ (locks : List Bool). lock_at locks k) start.starts.1 ∙ get_or-replicate (length p.tree) k false false l);
 }
-found-of g edges part (Not h t s) right start = record { nodes = t; tree = start.tree.nodes; found = (right.graph, refl, right.certificate.0) }
+found-of g edges part (Not b) right start = record { nodes = b.tree; tree = start.tree.nodes; found = (right.graph, refl, right.certificate.0) }
 
 -- so it is found of a graph, where one of the blocks before has this graph
 pub found-before : (g : Multigraph) (blocks : List (List ℕ)) (n : ℕ) (before : List BlockView) (v : BlockView) (outcome : Outcome) (h : Multigraph) → AreStartBlocks None g blocks n before → Contains before v

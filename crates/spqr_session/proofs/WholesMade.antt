@@ -9,9 +9,8 @@ use Rattle.multigraph.specs.Part.{GraphPart, Rises}
 use Rattle.blocks.specs.Blocks.{block_at}
 use Rattle.arrangements.proofs.Lists.{all-passes, passes-all}
 use Rattle.pair_split.specs.Tutte.{Node}
-use Rattle.multigraph.specs.Graph.{Multigraph}
-use Rattle.kuratowski.specs.declared.subdivision.Subdivision.{Subdivision}
 use Rattle.skel_embed.specs.Block.{BlockState}
+use Rattle.skel_embed.specs.Nonplanar.{Refused}
 use Rattle.skel_embed.specs.declared.planes.Outcome.{Outcome}
 use Rattle.skel_embed.specs.declared.planes.Outcome.TheVariants.{Plane, Not}
 use Rattle.whole_embed.specs.declared.members.Member.{Member}
@@ -48,9 +47,9 @@ module _ (view : BlockView) (o : Outcome) (seen : block_view view.tree.part o �
       }
 
   -- and of one that is not planar
-  pub not-member : (g : Multigraph) (t : List Node) (s : Subdivision) (part : GraphPart) → o ≡ Not g t s → part ≡ view.tree.part → IsMemberOf view (record { part = part; plane = None })
-  not-member g t s part e ep =
-      let at : block_view view.tree.part (Not g t s) ≡ view = ap (block_view view.tree.part) (sym e) ∙ seen in
+  pub not-member : (b : Refused) (part : GraphPart) → o ≡ Not b → part ≡ view.tree.part → IsMemberOf view (record { part = part; plane = None })
+  not-member b part e ep =
+      let at : block_view view.tree.part (Not b) ≡ view = ap (block_view view.tree.part) (sym e) ∙ seen in
       record {
         block = (λ i. in_plane (ep i) None) ∙ ap (λ (v : BlockView). block_with_entry v.tree v.entry) at;
         plane = λ x h. absurd (let both : None ≡ Some x = ap (λ (v : BlockView). v.entry) at ∙ h in cc);

@@ -41,17 +41,17 @@ entry_lock k (Some e) = lock_at e.locks k
 -- the part and what was found of it
 abbrev pub block_view : GraphPart → Outcome → BlockView
 block_view part (Plane p) = record { tree = record { part = part; nodes = p.tree }; certificate = None; entry = Some (record { rotation = p.rotation; locks = p.locks }) }
-block_view part (Not g t s) = record { tree = record { part = part; nodes = t }; certificate = Some s; entry = None }
+block_view part (Not b) = record { tree = record { part = part; nodes = b.tree }; certificate = Some b.certificate; entry = None }
 
 -- the graph that it was found of
 abbrev pub outcome_graph : Outcome → Multigraph
 outcome_graph (Plane p) = p.graph
-outcome_graph (Not g t s) = g
+outcome_graph (Not b) = b.graph
 
 -- what a block in the plane keeps belongs together
 abbrev pub KeepsTogether : Outcome → Type 0
 KeepsTogether (Plane p) = IsBlockState p
-KeepsTogether (Not g t s) = ⊤
+KeepsTogether (Not b) = ⊤
 
 -- what was found is that of a block with this graph and of the tree of the graph
 pub record IsFound (g : Multigraph) (outcome : Outcome) : Type 0 where

@@ -226,7 +226,7 @@ fn made_of_block(
             let plane = moved_at_once(alloc, plane, moves.as_slice())?;
             Ok(Some(MadeBlock { block: b, plane }))
         }
-        Outcome::Not(_, _, _) => Ok(None),
+        Outcome::Not(_) => Ok(None),
     }
 }
 

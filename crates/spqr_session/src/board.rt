@@ -287,7 +287,7 @@ fn step_to(
             back: moves_to(alloc, b, plane, present)?,
             cuts,
         }),
-        Outcome::Not(_, _, _) => unreachable!(),
+        Outcome::Not(_) => unreachable!(),
     }
 }
 

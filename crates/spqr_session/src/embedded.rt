@@ -65,7 +65,7 @@ impl EmbeddedBlock {
     {
         match &self.outcome {
             Outcome::Plane(plane) => plane.tree(),
-            Outcome::Not(_, tree, _) => tree,
+            Outcome::Not(block) => block.tree(),
         }
     }
 }

@@ -62,7 +62,7 @@ fn push_planarity(out: &mut Vec<u8>, b: u32, block: &EmbeddedBlock) -> Result<()
 {
     match block.outcome() {
         Outcome::Plane(_) => push_planar_line(out, b),
-        Outcome::Not(_, _, certificate) => push_nonplanar_lines(out, b, block.part(), certificate),
+        Outcome::Not(it) => push_nonplanar_lines(out, b, block.part(), it.certificate()),
     }
 }
 

@@ -33,7 +33,7 @@ pub(crate) fn code_of_move(block: &EmbeddedBlock, k: u32) -> Option<Code>
 {
     match block.outcome() {
         Outcome::Plane(plane) => lock_code(plane, k),
-        Outcome::Not(_, _, _) => Some(Code::NonPlanar),
+        Outcome::Not(_) => Some(Code::NonPlanar),
     }
 }
 

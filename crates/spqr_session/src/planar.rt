@@ -15,7 +15,7 @@ pub(crate) fn plane_of(blocks: &[EmbeddedBlock], b: u32) -> Result<(&Part, &Plan
     match blocks.get(b as usize) {
         Some(block) => match block.outcome() {
             Outcome::Plane(plane) => Ok((block.part(), plane)),
-            Outcome::Not(_, _, _) => Err(Code::NonPlanar),
+            Outcome::Not(_) => Err(Code::NonPlanar),
         },
         None => Err(Code::NoBlock),
     }

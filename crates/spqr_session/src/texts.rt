@@ -60,7 +60,7 @@ fn push_own(text: &mut Vec<u8>, block: &EmbeddedBlock, i: u32) -> Result<(), All
     let part = block.part();
     match block.outcome() {
         Outcome::Plane(plane) => push_round(text, part, plane.rotation().list(i)),
-        Outcome::Not(_, _, _) => push_edges(text, part, part.graph().incident(i)),
+        Outcome::Not(_) => push_edges(text, part, part.graph().incident(i)),
     }
 }
 

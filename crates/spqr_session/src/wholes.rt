@@ -30,7 +30,7 @@ fn is_planar(block: &EmbeddedBlock) -> bool
 {
     match block.outcome() {
         Outcome::Plane(_) => true,
-        Outcome::Not(_, _, _) => false,
+        Outcome::Not(_) => false,
     }
 }
 
@@ -106,7 +106,7 @@ fn member_of(alloc: Global, block: &EmbeddedBlock) -> Result<Member, AllocError>
                 plane: Some(own),
             })
         }
-        Outcome::Not(_, _, _) => Ok(Member { part, plane: None }),
+        Outcome::Not(_) => Ok(Member { part, plane: None }),
     }
 }
 

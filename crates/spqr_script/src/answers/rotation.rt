@@ -1,54 +1,42 @@
 // The text of the answer to `show`, which is also that of `list` for each member.
-ghost use Rattle.std.specs.Prelude.{◌≡◌, ◌<◌, ◌++◌, map, slice_index, codes, IfOk, OnOk, All};
-ghost use Rattle.multigraph.specs.Graph.{edge_count};
+ghost use Rattle.std.specs.Prelude.{◌≡◌, ◌<◌, ◌++◌, map, slice_index, codes, IfOk, OnOk};
 ghost use Rattle.rotations.specs.Rotation.{order_at, IsRotationSystem};
-ghost use Rattle.spqr_script.specs.Text.{spaced_numbers};
 ghost use Rattle.spqr_script.specs.Answers.Rotation.{entry_text, entries_text, outer_entries, rotation_text};
 
+use crate::outer::push_edges;
 use decimals::{push_number, push_word};
-use multigraph::Part;
-use rotations::{RotIter, Rotation};
+use multigraph::{FlatLists, Part};
+use rotations::Rotation;
 use std::alloc::{AllocError, Global};
 
-// Appends the edges of a walk around a vertex, each with a space before it to a text.
-fn push_round(out: &mut Vec<u8>, part: &Part, mut round: RotIter<'_>) -> Result<(), AllocError>
-    requires { All (λ e. e < edge_count part.now.graph) round }
-    ensures { OnOk result
-        (out.new.items ≡ out.old.items
-        ++ spaced_numbers (map (slice_index part.now.edges) round.entry)) }
-{
-    while let Some(e) = round.next() {
-        push_word(out, b" ")?;
-        push_number(out, u128::from(part.edge(e)))?;
-    }
-    Ok(())
-}
-
 // Appends the entry of a vertex to a text.
-fn push_entry(out: &mut Vec<u8>, part: &Part, r: &Rotation, v: u32) -> Result<(), AllocError>
-    requires system { IsRotationSystem part.now.graph r.now }
+fn push_entry(
+    out: &mut Vec<u8>,
+    part: &Part,
+    lists: &FlatLists<u32>,
+    v: u32,
+) -> Result<(), AllocError>
+    requires system { IsRotationSystem part.now.graph lists.now }
     requires vertex { v < part.now.graph.vertex_count }
     ensures { OnOk result
         (out.new.items ≡ out.old.items
-        ++ entry_text (slice_index part.now.vertices v, map (slice_index part.now.edges) (order_at r.now v))) }
+        ++ entry_text (slice_index part.now.vertices v, map (slice_index part.now.edges) (order_at lists.now v))) }
 {
     push_number(out, u128::from(part.vertex(v)))?;
     push_word(out, b":")?;
-    push_round(out, part, r.list(v))
+    push_edges(out, part, lists.at(v as usize))
 }
 
 // Appends the entries of all vertices to a text, a space before the first and `; ` before each other.
-fn push_entries(out: &mut Vec<u8>, part: &Part, r: &Rotation) -> Result<(), AllocError>
-    requires { IsRotationSystem part.now.graph r.now }
+fn push_entries(out: &mut Vec<u8>, part: &Part, lists: &FlatLists<u32>) -> Result<(), AllocError>
+    requires { IsRotationSystem part.now.graph lists.now }
     ensures { OnOk result
-        (out.new.items ≡ out.old.items ++ entries_text (codes " ") (outer_entries part.now r.now)) }
+        (out.new.items ≡ out.old.items ++ entries_text (codes " ") (outer_entries part.now lists.now)) }
 {
-    // The part has its vertices.
-    let _ = part.graph();
     let mut before: &'static [u8] = b" ";
-    for v in 0..r.vertex_count() {
+    for v in 0..part.graph().vertex_count() {
         push_word(out, before)?;
-        push_entry(out, part, r, v)?;
+        push_entry(out, part, lists, v)?;
         before = b"; ";
     }
     Ok(())
@@ -58,6 +46,7 @@ fn push_entries(out: &mut Vec<u8>, part: &Part, r: &Rotation) -> Result<(), Allo
 /// from its least edge on, in the numbers of the whole graph. Fails only if memory runs out; the text may then end in a part of
 /// the line.
 pub fn push_rotation_line(
+    alloc: Global,
     out: &mut Vec<u8>,
     b: u32,
     part: &Part,
@@ -66,10 +55,11 @@ pub fn push_rotation_line(
     requires { IsRotationSystem part.now.graph r.now }
     ensures { OnOk result (out.new.items ≡ out.old.items ++ rotation_text part.now b r.now) }
 {
+    let lists = r.lists(alloc)?;
     push_word(out, b"rotation ")?;
     push_number(out, u128::from(b))?;
     push_word(out, b" |")?;
-    push_entries(out, part, r)?;
+    push_entries(out, part, &lists)?;
     push_word(out, b"\n")
 }
 
@@ -85,6 +75,6 @@ pub fn rotation_line(
     ensures { IfOk result (λ text. text.items ≡ rotation_text part.now b r.now) }
 {
     let mut out = Vec::new(alloc);
-    push_rotation_line(&mut out, b, part, r)?;
+    push_rotation_line(alloc, &mut out, b, part, r)?;
     Ok(out)
 }

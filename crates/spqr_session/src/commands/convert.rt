@@ -29,7 +29,7 @@ fn lines_to(alloc: Global, block: &EmbeddedBlock, plane: &PlaneBlock) -> Result<
             let list = moves(alloc, present, plane)?;
             moves_lines(alloc, block.part(), &list)
         }
-        Outcome::Not(_, _, _) => unreachable!(),
+        Outcome::Not(_) => unreachable!(),
     }
 }
 

@@ -275,7 +275,7 @@ pub(super) fn push_member(
         kept.places.items kept.followers.items kept.changed.items)) }
 {
     if part.graph().vertex_count() == 2 {
-        push_rotation_line(out, b, part, r)?;
+        push_rotation_line(alloc, out, b, part, r)?;
         return Ok(None);
     }
     let kept = line_of(alloc, before, b, part, r)?;

@@ -29,7 +29,7 @@ fn code_of_block(block: &EmbeddedBlock, k: u32) -> Option<Code>
     }
     match block.outcome() {
         Outcome::Plane(_) => None,
-        Outcome::Not(_, _, _) => Some(Code::NonPlanar),
+        Outcome::Not(_) => Some(Code::NonPlanar),
     }
 }
 

@@ -25,7 +25,7 @@ impl EmbeddedBlock {
     {
         match &self.outcome {
             Outcome::Plane(plane) => plane.locked(k),
-            Outcome::Not(_, _, _) => false,
+            Outcome::Not(_) => false,
         }
     }
 
@@ -70,7 +70,7 @@ impl EmbeddedBlock {
         let _ = self.part.graph();
         match &mut self.outcome {
             Outcome::Plane(plane) => take_in(alloc, plane, &self.part, lists),
-            Outcome::Not(_, _, _) => Ok(()),
+            Outcome::Not(_) => Ok(()),
         }
     }
 

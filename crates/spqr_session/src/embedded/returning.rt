@@ -19,7 +19,7 @@ impl EmbeddedBlock {
     {
         match &self.outcome {
             Outcome::Plane(plane) => moves_back(alloc, plane, forth),
-            Outcome::Not(_, _, _) => unreachable!(),
+            Outcome::Not(_) => unreachable!(),
         }
     }
 }

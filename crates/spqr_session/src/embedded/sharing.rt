@@ -4,8 +4,7 @@ ghost use Rattle.std.specs.List.{Contains};
 ghost use Rattle.multigraph.specs.Graph.{edge_count, ends_of};
 
 use super::EmbeddedBlock;
-use kuratowski::Subdivision;
-use multigraph::{Graph, NumberLists, Numbers};
+use multigraph::Graph;
 use skel_embed::Outcome;
 use std::alloc::{AllocError, Global};
 
@@ -54,38 +53,12 @@ pub(crate) fn last_like<'a>(before: &'a [EmbeddedBlock], graph: &Graph) -> Optio
         .find(|block| is_same(block.part().graph(), graph))
 }
 
-// A copy of the lists.
-fn copied_lists(alloc: Global, lists: &[Numbers]) -> Result<Vec<Numbers>, AllocError>
-    ensures { IfOk result (λ copies. copies.items ≡ lists.now) }
-{
-    let mut copies = Vec::with_capacity(alloc, lists.len())?;
-    for list in lists {
-        copies.push(list.copy(alloc)?)?;
-    }
-    Ok(copies)
-}
-
-// A copy of a certificate.
-fn copied_certificate(alloc: Global, certificate: &Subdivision) -> Result<Subdivision, AllocError>
-    ensures { IfOk result (λ copy. copy ≡ certificate.now) }
-{
-    Ok(Subdivision {
-        kind: certificate.kind,
-        branch: certificate.branch.copy(alloc)?,
-        paths: NumberLists::of(copied_lists(alloc, certificate.paths.as_slice())?),
-    })
-}
-
-/// A copy of what was found. That of a block in the plane shares graph and tree. Fails only if memory runs out.
+/// A copy of what was found, which shares graph and tree with it, and the certificate where it has one. Fails only if memory runs out.
 pub(crate) fn copied(alloc: Global, outcome: &Outcome) -> Result<Outcome, AllocError>
     ensures { IfOk result (λ copy. copy ≡ outcome.now) }
 {
     match outcome {
         Outcome::Plane(plane) => Ok(Outcome::Plane(plane.copy(alloc)?)),
-        Outcome::Not(graph, tree, certificate) => Ok(Outcome::Not(
-            graph.copy(alloc)?,
-            tree.copy(alloc)?,
-            copied_certificate(alloc, certificate)?,
-        )),
+        Outcome::Not(block) => Ok(Outcome::Not(block.copy()?)),
     }
 }

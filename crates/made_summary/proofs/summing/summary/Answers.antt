@@ -30,7 +30,7 @@ summary_of-requires-clause-fork g c =
 
 pub unreachable-requires : goal.unreachable-requires
 unreachable-requires g c =
-    let s = c.in-Not.field-2 in
+    let s = c.in-Not.field-0.certificate in
     let planar = made-planar c.args.n c.args.seed c.requires.least in
     let outcome = subst (IsOutcome c.in_ok-graph.graph c.in_ok-tree.tree) c.in-Not.is c.in_ok-block.ensures in
     let written = subst (λ h. IsWritten h s.kind s.branch s.paths) c.in_ok-graph.ensures outcome.2 in

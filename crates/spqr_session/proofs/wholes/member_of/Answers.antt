@@ -6,4 +6,4 @@ pub returns-in_ok-own-in-Plane : goal.returns-in_ok-own-in-Plane
 returns-in_ok-own-in-Plane c = plane-member c.args.block.now c.outcome.result.now c.outcome.ensures.view c.outcome.ensures.right c.in-Plane.plane c.in_ok-own-in-Plane.own c.in_ok-part.part c.in-Plane.is (c.in_ok-part.ensures {u = tt} ∙ c.part.ensures) (c.in_ok-own-in-Plane.ensures {u = tt})
 
 pub returns-in-Not : goal.returns-in-Not
-returns-in-Not c = not-member c.args.block.now c.outcome.result.now c.outcome.ensures.view c.outcome.ensures.right c.in-Not.field-0 c.in-Not.field-1 c.in-Not.field-2 c.in_ok-part.part c.in-Not.is (c.in_ok-part.ensures {u = tt} ∙ c.part.ensures)
+returns-in-Not c = not-member c.args.block.now c.outcome.result.now c.outcome.ensures.view c.outcome.ensures.right c.in-Not.field-0 c.in_ok-part.part c.in-Not.is (c.in_ok-part.ensures {u = tt} ∙ c.part.ensures)

@@ -3,7 +3,7 @@ use Rattle.multigraph.specs.Graph.{edge_count}
 use Rattle.spqr_script.proofs.Within.{round-within}
 use Rattle.spqr_script.proofs.answers.rotation.push_entry.Goals as goal
 
-pub push_round-requires : goal.push_round-requires
-push_round-requires c =
+pub push_edges-requires : goal.push_edges-requires
+push_edges-requires c =
     let g = c.args.part.now.graph in
-    subst (All (λ e. e < edge_count g)) (sym c.list.ensures) (round-within g c.args.r.now c.args.v c.requires.system c.requires.vertex)
+    subst (All (λ e. e < edge_count g)) (sym c.at.ensures) (round-within g c.args.lists.now c.args.v c.requires.system c.requires.vertex)
