@@ -39,7 +39,7 @@ fn write_answers<K: Sink>(
     Ok(())
 }
 
-// Writes the report: the head, then the answers.
+// Writes the report: the head, the memory of which is then given back, and the answers.
 fn write_report<K: Sink>(
     alloc: Global,
     accepted: Accepted,
@@ -56,6 +56,7 @@ fn write_report<K: Sink>(
     } = accepted;
     let head = session.head(alloc)?;
     put_text(sink, &head)?;
+    drop(head);
     write_answers(alloc, &mut session, &commands, sink)
 }
 

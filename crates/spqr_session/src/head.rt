@@ -12,7 +12,7 @@ ghost use Rattle.spqr_session.specs.Head.{head_text, nodes_text, block_lines, pl
 use crate::embedded::EmbeddedBlock;
 use blocks::Blocks;
 use gml_graph::Named;
-use multigraph::Part;
+use multigraph::{Graph, Part};
 use skel_embed::Outcome;
 use spqr_script::{
     graph_line, push_block_line, push_cut_line, push_node_line, push_nonplanar_lines,
@@ -20,6 +20,9 @@ use spqr_script::{
 };
 use spqr_tree::Tree;
 use std::alloc::{AllocError, Global};
+
+// How many bytes of the head room is made for, for each vertex and each edge.
+const BYTES_EACH: usize = 128;
 
 // Appends the lines of the vertices to a text.
 fn push_vertices(out: &mut Vec<u8>, ids: &[i64]) -> Result<(), AllocError>
@@ -85,6 +88,13 @@ fn push_blocks(
     Ok(())
 }
 
+// Room for the head of a graph: twice what the lines of most graphs take. Where it is large, the system gives only the pages that are
+// written, and an allocator that learns from the blocks that it gets back (as glibc's does) then keeps what one command has used for the next.
+fn room_for(graph: &Graph) -> usize {
+    let count = (graph.vertex_count() as usize).saturating_add(graph.edge_count() as usize);
+    count.saturating_mul(BYTES_EACH)
+}
+
 /// The head: the line of the graph, then a line for each vertex, for each cut vertex and for each block with the nodes of its
 /// tree in increasing order, and whether the block is planar, else with its certificate.
 pub fn head_of(
@@ -99,6 +109,7 @@ pub fn head_of(
 {
     let graph = named.graph();
     let mut out = graph_line(alloc, graph.vertex_count(), graph.edge_count())?;
+    out.reserve(room_for(graph))?;
     push_vertices(&mut out, named.ids())?;
     push_cuts(&mut out, blocks.cut_vertices())?;
     push_blocks(&mut out, blocks, embedded)?;

@@ -257,8 +257,8 @@ fn line_of(
     }
 }
 
-// Appends the line of a rotation system of block b to a text, and keeps it. Of a block with two vertices no line is kept: no two of its
-// rotation systems have the same entry.
+// Appends the line of a rotation system of block b to a text with room for this many lines, and keeps it. Of a block with two vertices no
+// line is kept: no two of its rotation systems have the same entry.
 pub(super) fn push_member(
     alloc: Global,
     out: &mut Vec<u8>,
@@ -266,6 +266,7 @@ pub(super) fn push_member(
     b: u32,
     part: &Part,
     r: &Rotation,
+    lines: u32,
 ) -> Result<Option<KeptLine>, AllocError>
     requires system { IsRotationSystem part.now.graph r.now }
     requires kept { IfSome before (λ kept. (q : List (List ℕ)) × IsKept part.now b q kept.line.items
@@ -279,6 +280,7 @@ pub(super) fn push_member(
         return Ok(None);
     }
     let kept = line_of(alloc, before, b, part, r)?;
+    out.reserve(kept.text().len().saturating_mul(lines as usize))?;
     out.extend_from_slice(kept.text())?;
     Ok(Some(kept))
 }

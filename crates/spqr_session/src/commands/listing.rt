@@ -21,6 +21,9 @@ use skel_embed::PlaneBlock;
 use spqr_script::{end_line, list_line, more_line};
 use std::alloc::{AllocError, Global};
 
+// For how many lines room is made at once: of one block, all lines have the same length.
+const LINES_AT_ONCE: u32 = 16;
+
 // Goes to the next members, n of them or all where they are fewer, appends the line of each to a text, and returns how many they
 // are.
 fn push_members(
@@ -44,7 +47,8 @@ fn push_members(
         if !next(walker) {
             return Ok(turn);
         }
-        kept = push_member(alloc, out, kept, b, part, walker.rotation())?;
+        let lines = (n - turn).min(LINES_AT_ONCE);
+        kept = push_member(alloc, out, kept, b, part, walker.rotation(), lines)?;
     }
     Ok(n)
 }
