@@ -250,7 +250,7 @@ module _ (views : List BlockView) (lists new_lists : List (Option (List ℕ))) (
 -- the part of a block with what was found of it
 pub view-part : (part : GraphPart) (outcome : Outcome) → (block_view part outcome).tree.part ≡ part
 view-part part (Plane p) = refl
-view-part part (Not g t s) = refl
+view-part part (Not b) = refl
 
 -- what a board goes on to with a step that is noted: its history belongs to it
 module _ (views other : List BlockView) (lists new_lists : List (Option (List ℕ))) (old new : UndoHistory) (s : Step) (kept : Kept) (seen : BoardView) (h : IsBoard views lists old) (is : board_view views lists old ≡ seen) (c : IsCarried views other)
