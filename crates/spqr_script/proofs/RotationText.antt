@@ -5,7 +5,6 @@ use Rattle.std.proofs.lemmas.List.{append-nil, drop_all, length-map, get_or-map}
 use Rattle.std.proofs.lemmas.Slice.Zip.{length-zip, get_or-zip}
 use Rattle.multigraph.specs.Part.{GraphPart}
 use Rattle.rotations.specs.Rotation.{order_at}
-use Rattle.spqr_script.specs.Text.{spaced_numbers}
 use Rattle.spqr_script.specs.Answers.Rotation.{entry_text, entries_text, outer_entries}
 
 -- vertex v of a part with its cyclic order, as an entry
