@@ -61,7 +61,7 @@ module _ (g : Multigraph) (nodes : List Node) (b : IsBlockTree g nodes) (small :
   pub root-inside : root < length comps
   root-inside = comp-in g nodes tree b.block.has_edge root root-in
 
-  root-first : (node_item nodes root 0).what ≡ Real 0
+  pub root-first : (node_item nodes root 0).what ≡ Real 0
   root-first = (root-stands g nodes tree b.block.has_edge).2
 
   module _ (k : ℕ) (l : k < length nodes) where
@@ -78,7 +78,7 @@ module _ (g : Multigraph) (nodes : List Node) (b : IsBlockTree g nodes) (small :
     ]
 
     -- the node with edge 0 is beyond this link
-    towards : (p : ℕ) → (node_item nodes k 0).what ≡ Link p → LinksTo comps k p × (is_beyond comps k p root ≡ true)
+    pub towards : (p : ℕ) → (node_item nodes k 0).what ≡ Link p → LinksTo comps k p × (is_beyond comps k p root ≡ true)
     towards p e = (link-to g nodes tree b.block.has_edge k 0 p first e, sym home ∙ holds)
       where
         holds : side comps k p 0 ≡ true

@@ -41,7 +41,7 @@ mod table;
 mod weighing;
 
 pub use numbers::number_faces;
-pub use ordering::{ABSENT, Order, order_from};
+pub use ordering::{ABSENT, Order, order_from, order_of};
 pub use sums::face_sums;
 pub use table::Weights;
 pub use weighing::weigh;

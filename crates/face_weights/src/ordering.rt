@@ -91,10 +91,12 @@ fn order_by(alloc: Global, parents: &[u32]) -> Result<Vec<u32>, AllocError>
     Ok(nodes)
 }
 
-// The nodes, each after its parent, from the node with edge 0 on. In linear time. Fails only if memory runs out.
-pub(crate) fn order_of(alloc: Global, tree: &Tree) -> Result<Order, AllocError>
+/// The nodes of a tree, each after its parent, from the node with edge 0 on, and the parents, which are at the other ends of the first
+/// items. In linear time. Fails only if memory runs out.
+pub fn order_of(alloc: Global, tree: &Tree) -> Result<Order, AllocError>
     requires block { (g : Multigraph) × IsBlockTree g tree.now × IsWithinLimits g }
-    ensures { IfOk result (λ order. IsOrderOf tree.now order.parents.items order.nodes.items) }
+    ensures order { IfOk result (λ order. IsOrderOf tree.now order.parents.items order.nodes.items) }
+    ensures first { IfOk result (λ order. HangFromFirst tree.now order.parents.items) }
 {
     let parents = first_parents(alloc, tree)?;
     let nodes = order_by(alloc, &parents)?;

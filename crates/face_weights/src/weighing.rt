@@ -14,7 +14,7 @@ ghost use Rattle.face_weights.specs.Sums.{weight_in};
 ghost use Rattle.face_weights.specs.Orders.{IsOrderOf};
 ghost use Rattle.face_weights.specs.Passes.{LinkOnce, AreBelow, AreDone, AreLight, AreHandedDown};
 
-use crate::ordering::order_of;
+use crate::ordering::Order;
 use crate::rests::{rest_at, rests_of};
 use crate::table::Weights;
 use pair_split::{Item, What};
@@ -184,15 +184,20 @@ fn pass_down(
 /// heaviest face of the node beyond it that has the link back, without the link back; of a bond, as much as the heaviest other
 /// item. And the greatest weight of a face of a node, of a bond that of two items.
 ///
-/// The faces are those of the skeletons in a family of plane rotation systems, by the numbers of their darts. In linear time.
-/// Fails only if memory runs out.
-pub fn weigh(alloc: Global, tree: &Tree, faces: &FlatLists) -> Result<Weights, AllocError>
+/// The faces are those of the skeletons in a family of plane rotation systems, by the numbers of their darts. `order` is that of
+/// `order_of`. In linear time. Fails only if memory runs out.
+pub fn weigh(
+    alloc: Global,
+    tree: &Tree,
+    order: Order,
+    faces: &FlatLists,
+) -> Result<Weights, AllocError>
     requires block { (g : Multigraph) × IsBlockTree g tree.now × IsWithinLimits g }
+    requires order { IsOrderOf tree.now order.parents.items order.nodes.items }
     requires faces { (family : List (List (List ℕ))) × KnowFaces tree.now family faces.now }
     ensures { IfOk result (λ w. (family : List (List (List ℕ))) → KnowFaces tree.now family faces.now
         → AreWeights tree.now family w) }
 {
-    let order = order_of(alloc, tree)?;
     let below = pass_up(alloc, tree, faces, &order.parents, &order.nodes)?;
     let (above, most, top) = pass_down(alloc, tree, faces, &order.parents, &order.nodes, &below)?;
     Ok(Weights {

@@ -10,3 +10,4 @@ pub mod Bonds
 pub mod Present
 pub mod Walk
 pub mod Moves
+pub mod Ups

@@ -11,7 +11,7 @@ use crate::joining::wants_of;
 use crate::moving::moves_for;
 use crate::numbers::present_faces;
 use crate::present::has_face;
-use face_weights::{Weights, weigh};
+use face_weights::{Weights, order_of, weigh};
 use faces::face_steps;
 use skel_decompose::FlatLists;
 use skel_embed::{Move, PlaneBlock};
@@ -54,8 +54,9 @@ pub fn longest(alloc: Global, p: &PlaneBlock) -> Result<LongestFace, AllocError>
     p.belongs();
     p.graph().keeps_limits();
     let steps = face_steps(alloc, p.graph(), p.rotation())?;
-    let faces = present_faces(alloc, p, &steps)?;
-    let weights = weigh(alloc, p.tree(), &faces)?;
+    let order = order_of(alloc, p.tree())?;
+    let faces = present_faces(alloc, p, &order, &steps)?;
+    let weights = weigh(alloc, p.tree(), order, &faces)?;
     let length = weights.most();
     if has_face(alloc, steps, length)? {
         return Ok(LongestFace {

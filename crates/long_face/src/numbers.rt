@@ -7,13 +7,15 @@ ghost use Rattle.pair_split.specs.Tutte.{node_at};
 ghost use Rattle.pair_split.specs.declared.components.Kind.TheVariants.{S, P};
 ghost use Rattle.skeletons.specs.Families.{AreSkeletonSystems, FollowsFamily, skeleton_graph, system_at};
 ghost use Rattle.face_weights.specs.Numbers.{KnowFaces, NumberFaces};
+ghost use Rattle.face_weights.specs.Orders.{HangFromFirst, IsOrderOf};
 ghost use Rattle.long_face.specs.Present.{HaveOtherFollowers};
 
 use crate::bond_faces::bond_numbers;
+use crate::followers::followers_by_climbs;
 use crate::polygons::polygon_steps;
-use face_weights::number_faces;
+use face_weights::{Order, number_faces};
 use pair_split::Kind;
-use skel_decompose::{FlatLists, face_steps, followers_by_steps};
+use skel_decompose::{FlatLists, face_steps};
 use skel_embed::PlaneBlock;
 use spqr_tree::Tree;
 use std::alloc::{AllocError, Global};
@@ -42,19 +44,23 @@ fn some_read(tree: &Tree) -> bool
     false
 }
 
-// What follows the items of the nodes, where some node is neither a polygon nor a bond, by the face steps of the present rotation system.
+// What follows the items of the nodes, where some node is neither a polygon nor a bond, by the face steps of the present rotation
+// system; `order` is that of `order_of`.
 fn other_followers(
     alloc: Global,
     p: &PlaneBlock,
+    order: &Order,
     block_steps: &[u32],
 ) -> Result<FlatLists, AllocError>
-    requires { AreFaceSteps p.now.graph p.now.rotation block_steps.now }
+    requires steps { AreFaceSteps p.now.graph p.now.rotation block_steps.now }
+    requires order { IsOrderOf p.now.tree order.now.parents.items order.now.nodes.items }
+    requires first { HangFromFirst p.now.tree order.now.parents.items }
     ensures { IfOk result (HaveOtherFollowers p.now.tree p.now.rotation) }
 {
     p.belongs();
     p.graph().keeps_limits();
     if some_read(p.tree()) {
-        return Ok(followers_by_steps(alloc, p.graph(), p.tree(), block_steps)?);
+        return Ok(followers_by_climbs(alloc, p.graph(), p.tree(), order, block_steps)?);
     }
     FlatLists::with_capacity(alloc, 0)
 }
@@ -97,14 +103,17 @@ fn numbers_at(
 pub(crate) fn present_faces(
     alloc: Global,
     p: &PlaneBlock,
+    order: &Order,
     block_steps: &[u32],
 ) -> Result<FlatLists, AllocError>
-    requires { AreFaceSteps p.now.graph p.now.rotation block_steps.now }
+    requires steps { AreFaceSteps p.now.graph p.now.rotation block_steps.now }
+    requires order { IsOrderOf p.now.tree order.now.parents.items order.now.nodes.items }
+    requires first { HangFromFirst p.now.tree order.now.parents.items }
     ensures { IfOk result (λ faces. (family : List (List (List ℕ))) → AreSkeletonSystems p.now.tree family
         → FollowsFamily p.now.tree family p.now.rotation → KnowFaces p.now.tree family faces) }
 {
     p.belongs();
-    let others = other_followers(alloc, p, block_steps)?;
+    let others = other_followers(alloc, p, order, block_steps)?;
     let mut faces = FlatLists::with_capacity(alloc, p.tree().node_count() as usize)?;
     let mut sums = vec![in alloc; 0; p.graph().vertex_count() as usize]?;
     let (mut steps, mut own) = (Vec::new(alloc), Vec::new(alloc));

@@ -20,8 +20,8 @@ order_by-requires-clause-few c =
     let b = c.requires.block in
     subst (λ (z : List ℕ). length z < absent) (sym c.deref.ensures.value) (omega (arith, c.in_ok-parents.ensures.number, number b.0 c.args.tree.now b.1 b.2, few b.0 c.args.tree.now b.1 b.2))
 
-pub returns : goal.returns
-returns c =
+pub returns-clause-order : goal.returns-clause-order
+returns-clause-order c =
     let b = c.requires.block in
     in-order b.0 c.args.tree.now b.1 b.2 c.in_ok-parents.parents.items c.in_ok-parents.ensures c.in_ok-nodes.nodes.items
     (subst (λ (z : List ℕ). AreDown z c.in_ok-nodes.nodes.items) c.deref.ensures.value c.in_ok-nodes.ensures.down)
