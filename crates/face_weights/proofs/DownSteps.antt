@@ -12,7 +12,7 @@ use Rattle.skeletons.specs.Families.{skeleton_graph, system_at, AreSkeletonSyste
 use Rattle.skeleton_runs.proofs.SkeletonGraph.{graph-edges}
 use Rattle.spqr_tree.specs.Keys.{parent_at}
 use Rattle.face_weights.specs.Rests.{IsRest}
-use Rattle.face_weights.specs.Orders.{IsOrderOf}
+use Rattle.skel_decompose.specs.Orders.{IsOrderOf}
 use Rattle.face_weights.specs.Passes.{weights_at, group_size, AreLight, AreHandedDown, IsDone, AreDone}
 use Rattle.face_weights.proofs.RestLemmas.{rest-same}
 use Rattle.face_weights.proofs.GroupSizes.{rest-group}

@@ -13,7 +13,7 @@ use Rattle.skeletons.specs.Items.{IsBlockTree}
 use Rattle.spqr_tree.specs.Keys.{parent_at}
 use Rattle.spqr_tree.proofs.UpLinks.{link-to, link-once, link-within, node-in, comp-in, item-of}
 use Rattle.face_weights.specs.Weights.{weight_by}
-use Rattle.face_weights.specs.Orders.{IsOrderOf}
+use Rattle.skel_decompose.specs.Orders.{IsOrderOf}
 use Rattle.face_weights.specs.Passes.{LinkOnce}
 
 -- the weight of an edge, of a link to the parent, and of another link

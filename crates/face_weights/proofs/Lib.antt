@@ -9,10 +9,6 @@ pub mod UpSteps
 pub mod DownSteps
 pub mod Weighed
 pub mod Steps
-pub mod Ways
-pub mod Hanging
-pub mod FirstParents
-pub mod Rerooting
 pub mod NodeCode
 pub mod Numbering
 pub mod Totals

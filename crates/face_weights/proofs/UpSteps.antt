@@ -12,7 +12,7 @@ use Rattle.skeletons.specs.Items.{IsBlockTree}
 use Rattle.skeletons.specs.Families.{skeleton_graph, system_at, AreSkeletonSystems}
 use Rattle.spqr_tree.specs.Keys.{parent_at}
 use Rattle.face_weights.specs.Rests.{IsRest}
-use Rattle.face_weights.specs.Orders.{IsOrderOf}
+use Rattle.skel_decompose.specs.Orders.{IsOrderOf}
 use Rattle.face_weights.specs.Passes.{weights_at, group_size, AreLight, AreBelow}
 use Rattle.face_weights.proofs.RestLemmas.{rest-other}
 use Rattle.face_weights.proofs.GroupSizes.{rest-group, edge-group}

@@ -16,7 +16,7 @@ use Rattle.spqr_tree.specs.Keys.{parent_at}
 use Rattle.face_weights.specs.Weights.{Weighing, weight_of}
 use Rattle.face_weights.specs.Reached.{AreWeights}
 use Rattle.face_weights.specs.Rests.{IsRest}
-use Rattle.face_weights.specs.Orders.{IsOrderOf}
+use Rattle.skel_decompose.specs.Orders.{IsOrderOf}
 use Rattle.face_weights.specs.Passes.{AreLight, weights_at, AreBelow, IsDone, IsMost, AreDone}
 use Rattle.face_weights.proofs.RestLemmas.{rest-once, rest-other}
 use Rattle.face_weights.proofs.InOrder.{weight-edge, weight-up, weight-down, place-of, some, once, child-parent, parent-one}

@@ -5,5 +5,3 @@ pub mod Rests
 pub mod Sums
 pub mod Passes
 pub mod Numbers
-pub mod Orders
-pub mod Ways

@@ -4,7 +4,7 @@ use Rattle.pair_split.specs.Tutte.{Node, node_at}
 use Rattle.pair_split.specs.declared.components.Kind.TheVariants.{P}
 use Rattle.skeleton_faces.specs.Faces.{skeleton_weight, IsSkeletonDart, AreAcross, EdgesWeighOne}
 use Rattle.skeleton_faces.specs.Tables.{IsTable}
-use Rattle.face_weights.specs.Orders.{IsOrderOf}
+use Rattle.skel_decompose.specs.Orders.{IsOrderOf}
 use Rattle.face_weights.specs.Passes.{AreLight}
 use Rattle.face_weights.specs.Weights.{Weighing, weight_of, IsSized}
 

@@ -24,9 +24,6 @@
 //   LinkFaces    link-faces: the darts of a link lie on two faces
 //   RestLemmas   rest-once, rest-other, rest-light: there is one rest, it does not depend on the item, and it is small
 //   GroupSizes   rest-group: no rest at a link is more than twice the size of the group of the link back
-//   Ways         climbing-more, listed-more: ways up, and lists in which each node is after its parent
-//   Hanging      ordered: such a list is an order of the tree; FirstParents are-parents: the parents by the first items
-//   Rerooting    rooted-climbed: the order from another root, the way up from which comes first and is turned
 //   InOrder      child-parent, child-after, parent-one: links in an order with each node after its parent
 //   UpSteps      below-more, light-more; DownSteps: light-down, done-greater, done-less: one node more in each pass
 //   Weighed      weighed: after both passes the weights are as promised
@@ -34,14 +31,12 @@
 #![tactic(auto)]
 
 mod numbers;
-mod ordering;
 mod rests;
 mod sums;
 mod table;
 mod weighing;
 
 pub use numbers::number_faces;
-pub use ordering::{ABSENT, Order, order_from, order_of};
 pub use sums::face_sums;
 pub use table::Weights;
 pub use weighing::weigh;

@@ -9,8 +9,7 @@ ghost use Rattle.faces.specs.Steps.{AreFaceSteps};
 ghost use Rattle.spqr_tree.specs.Absent.{absent};
 ghost use Rattle.face_weights.specs.Numbers.{number_at, marks_of, IsOrbitNumbered, AreOrbitsNumbered, NumberFaces};
 
-use crate::ordering::ABSENT;
-use skel_decompose::renew;
+use skel_decompose::{ABSENT, renew};
 use std::alloc::AllocError;
 
 // Numbers the orbit of `start`, which has no numbers yet: the walk along the steps ends where it began.

@@ -8,10 +8,10 @@ ghost use Rattle.pair_split.specs.Tutte.{components, node_at};
 ghost use Rattle.spqr_tree.specs.Keys.{AreOrdered};
 ghost use Rattle.face_weights.specs.Weights.{weight_of, IsSized};
 ghost use Rattle.face_weights.specs.Sums.{weight_in};
-ghost use Rattle.face_weights.specs.Orders.{IsOrderOf};
+ghost use Rattle.skel_decompose.specs.Orders.{IsOrderOf};
 
-use crate::ordering::{Order, rooted_at};
 use crate::weighing::weights_of;
+use skel_decompose::{Order, rooted_at};
 use spqr_tree::Tree;
 use std::alloc::{AllocError, Global};
 use std::marker::Model;

@@ -11,14 +11,13 @@ ghost use Rattle.face_weights.specs.Weights.{weight_by};
 ghost use Rattle.face_weights.specs.Reached.{AreWeights};
 ghost use Rattle.face_weights.specs.Rests.{IsRest};
 ghost use Rattle.face_weights.specs.Sums.{weight_in};
-ghost use Rattle.face_weights.specs.Orders.{IsOrderOf};
+ghost use Rattle.skel_decompose.specs.Orders.{IsOrderOf};
 ghost use Rattle.face_weights.specs.Passes.{LinkOnce, AreBelow, AreDone, AreLight, AreHandedDown};
 
-use crate::ordering::Order;
 use crate::rests::{rest_at, rests_of};
 use crate::table::Weights;
 use pair_split::{Item, What};
-use skel_decompose::FlatLists;
+use skel_decompose::{FlatLists, Order};
 use spqr_tree::Tree;
 use std::alloc::{AllocError, Global};
 

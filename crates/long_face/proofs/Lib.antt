@@ -18,9 +18,3 @@ pub mod BondNumbers
 pub mod PolygonSteps
 pub mod LinkSearch
 pub mod FaceLengths
-pub mod Below
-pub mod UpLists
-pub mod Joins
-pub mod Entries
-pub mod Climbs
-pub mod Followed

@@ -10,4 +10,3 @@ pub mod Bonds
 pub mod Present
 pub mod Walk
 pub mod Moves
-pub mod Ups

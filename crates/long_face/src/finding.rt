@@ -11,9 +11,9 @@ use crate::joining::wants_of;
 use crate::moving::moves_for;
 use crate::numbers::present_faces;
 use crate::present::has_face;
-use face_weights::{Weights, order_of, weigh};
+use face_weights::{Weights, weigh};
 use faces::face_steps;
-use skel_decompose::FlatLists;
+use skel_decompose::{FlatLists, order_of};
 use skel_embed::{Move, PlaneBlock};
 use std::alloc::{AllocError, Global};
 

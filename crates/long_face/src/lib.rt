@@ -10,9 +10,8 @@
 //
 // `longest` gives the greatest length and the moves. It numbers the faces of the skeletons by their darts: those of a bond by its kept choice,
 // those of a polygon by its items, two of which meet at each vertex, and those of other nodes, where there are any, by what follows their
-// items in the present rotation system. For this it climbs in the tree from each edge and the next one around a vertex to the node where
-// they meet: at each node on the way the item that has the next edge follows that of the edge. The face steps of the block tell the next
-// edges, and whether a longest face is there already. With the weights (face_weights) it walks over the nodes from the top, each after its
+// items in the present rotation system (`followers_by_steps` of skel_decompose). The face steps of the block tell this, and whether a longest
+// face is there already. With the weights (face_weights) it walks over the nodes from the top, each after its
 // parent, and compares no rotation systems: no copy of the block is made, and no ring is moved. Where a face of a node is wanted, the
 // weights of a bond are listed, and those of the faces of a triconnected node. The laws are its three parts: weights bound the faces of a
 // block, wanted faces are reached, and a walk from the top leads to a longest face.
@@ -24,17 +23,12 @@
 //   BondNumbers written-more, bond-known: numbers of these faces; PolygonSteps leaves-first, leaves-second: steps in a polygon
 //   Reached    reached: wanted faces are faces of some plane rotation system; Greatest table-bounds, wanted-reached
 //   FromTop    are-wanted: each node wants what its parent asks for; Best best-below: the heaviest face weighs enough
-//   Below      below-chained, below-along: the nodes below a node; UpLists ups-put, ranks-done: the links to parents, and ranks
-//   Joins      up-climbs, there-climbs, met-last: what climbs from two edges write; Climbs: as they are carried out; Entries entry-keeps
-//   Followed   all-followed: a table with what follows the last edge of each run has what follows each item
 //   FaceLengths has-found, has-none: whether a face has a length; Asked one-side; Walked, Steps: the walk from the top; RowsMade known-ready; Final
 #![tactic(auto)]
 
 mod bond_faces;
-mod climbing;
 mod exchanged;
 mod finding;
-mod followers;
 mod joining;
 mod laws;
 mod links;
@@ -43,7 +37,6 @@ mod numbers;
 mod polygons;
 mod present;
 mod rows;
-mod ups;
 mod walking;
 mod wanting;
 mod wants;

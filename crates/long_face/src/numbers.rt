@@ -7,15 +7,14 @@ ghost use Rattle.pair_split.specs.Tutte.{node_at};
 ghost use Rattle.pair_split.specs.declared.components.Kind.TheVariants.{S, P};
 ghost use Rattle.skeletons.specs.Families.{AreSkeletonSystems, FollowsFamily, skeleton_graph, system_at};
 ghost use Rattle.face_weights.specs.Numbers.{KnowFaces, NumberFaces};
-ghost use Rattle.face_weights.specs.Orders.{HangFromFirst, IsOrderOf};
+ghost use Rattle.skel_decompose.specs.Orders.{HangFromFirst, IsOrderOf};
 ghost use Rattle.long_face.specs.Present.{HaveOtherFollowers};
 
 use crate::bond_faces::bond_numbers;
-use crate::followers::followers_by_climbs;
 use crate::polygons::polygon_steps;
-use face_weights::{Order, number_faces};
+use face_weights::number_faces;
 use pair_split::Kind;
-use skel_decompose::{FlatLists, face_steps};
+use skel_decompose::{FlatLists, Order, face_steps, followers_by_steps};
 use skel_embed::PlaneBlock;
 use spqr_tree::Tree;
 use std::alloc::{AllocError, Global};
@@ -60,7 +59,7 @@ fn other_followers(
     p.belongs();
     p.graph().keeps_limits();
     if some_read(p.tree()) {
-        return Ok(followers_by_climbs(alloc, p.graph(), p.tree(), order, block_steps)?);
+        return Ok(followers_by_steps(alloc, p.graph(), p.tree(), order, block_steps)?);
     }
     FlatLists::with_capacity(alloc, 0)
 }

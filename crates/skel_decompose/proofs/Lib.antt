@@ -1,8 +1,14 @@
--- Lemmas on the table of what follows each item, and on the walks that fill it.
-pub mod Searched
-mod Nearby
-mod Written
-pub mod Ahead
-mod Complete
+-- Lemmas on orders of the nodes, on the table of what follows each item, and on the climbs that fill it.
+pub mod Ways
+pub mod Hanging
+pub mod FirstParents
+pub mod Rerooting
+pub mod UpLists
+mod Around
+pub mod Below
+mod Entries
+mod Joins
+mod Climbs
+mod Followed
 mod Gathered
 pub mod Stepped

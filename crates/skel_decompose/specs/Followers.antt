@@ -1,15 +1,13 @@
 -- How far a table of what follows each item has what a rotation system of the block gives.
-use Rattle.std.specs.Prelude.{◌≡◌, ℕ, ◌<◌, ◌⊎◌, true, List, length, map}
+use Rattle.std.specs.Prelude.{◌≡◌, ℕ, ◌<◌, true, List, map}
 use Rattle.permutations.specs.Cyclic.{successor}
 use Rattle.multigraph.specs.Graph.{Multigraph, edge_count, is_end, numbers_below, IsWithinLimits}
 use Rattle.rotations.specs.Rotation.{order_at, IsRotationSystem}
-use Rattle.pair_split.specs.Split.{is_beyond}
-use Rattle.pair_split.specs.Tutte.{Node, components, node_at, node_item, group}
-use Rattle.pair_split.specs.declared.components.What.TheVariants.{Real, Link}
+use Rattle.pair_split.specs.Tutte.{Node, node_item, group}
+use Rattle.pair_split.specs.declared.components.What.TheVariants.{Real}
 use Rattle.skeletons.specs.Items.{IsBlockTree}
 use Rattle.skeletons.specs.Round.{IsContiguous}
 use Rattle.skeletons.specs.Families.{system_at, AreSkeletonSystems, FollowsFamily}
-use Rattle.skel_compose.specs.Homes.{IsHome}
 use Rattle.skel_compose.specs.Followers.{IsItemEnd, HasFollower}
 
 -- r is a rotation system of the block with this tree, and the groups of each node are in runs
@@ -45,19 +43,10 @@ pub record IsLastOf (nodes : List Node) (r : List (List ℕ)) (v e k i : ℕ) : 
 abbrev pub HasLast : List Node → List (List ℕ) → List (List (List ℕ)) → List (List ℕ) → ℕ → ℕ → Type 0
 HasLast nodes r family table v e = (k i : ℕ) → IsLastOf nodes r v e k i → HasFollower nodes family table k i v
 
--- for the edges that the nodes before k and the first n items of node k have, at both ends
-pub record HasLasts (g : Multigraph) (nodes : List Node) (r : List (List ℕ)) (family : List (List (List ℕ))) (k n : ℕ) (table : List (List ℕ)) : Type 0 where
-  pub before : (j i e v : ℕ) → j < k → IsHome nodes j i e → is_end g v e ≡ true → HasLast nodes r family table v e
-  pub here : (i e v : ℕ) → i < n → IsHome nodes k i e → is_end g v e ≡ true → HasLast nodes r family table v e
+-- at both ends of the edges before n
+abbrev pub HaveLasts : Multigraph → List Node → List (List ℕ) → List (List (List ℕ)) → List (List ℕ) → ℕ → Type 0
+HaveLasts g nodes r family table n = (x v : ℕ) → x < n → is_end g v x ≡ true → HasLast nodes r family table v x
 
 -- the members of the family for the nodes below n
 abbrev pub members_below : List (List (List ℕ)) → ℕ → List (List (List ℕ))
 members_below family n = map (system_at family) (numbers_below n)
-
--- node j is not beyond the item of node k that has edge e in its group
-abbrev pub IsOpen : List Node → ℕ → ℕ → ℕ → Type 0
-IsOpen nodes e k j = (j ≡ k → ⊥) → (p h : ℕ) → p < length (node_at nodes k).items → (node_item nodes k p).what ≡ Link h → is_beyond (components nodes) k h j ≡ true → group nodes k e ≡ (node_item nodes k p).key → ⊥
-
--- what a walk from edge e around v that has come to node k has still to write is ahead of it
-abbrev pub IsAhead : List Node → List (List ℕ) → List (List (List ℕ)) → List (List ℕ) → ℕ → ℕ → ℕ → Type 0
-IsAhead nodes r family table v e k = (j h : ℕ) → IsLastOf nodes r v e j h → HasFollower nodes family table j h v ⊎ IsOpen nodes e k j

@@ -10,9 +10,9 @@ ghost use Rattle.spqr_session.specs.History.{as_pairs, IsMoveOf, IsStepOf};
 ghost use Rattle.spqr_session.specs.Moved.{all_moved};
 
 use crate::embedded::EmbeddedBlock;
-use face_weights::{Order, order_from};
 use multigraph::Graph;
 use pair_split::What;
+use skel_decompose::{Order, order_from};
 use skel_embed::{Draft, Move, Outcome, PlaneBlock};
 use spqr_tree::Tree;
 use std::alloc::{AllocError, Global};

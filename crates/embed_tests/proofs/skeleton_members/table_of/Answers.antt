@@ -6,7 +6,7 @@ use Rattle.skeletons.specs.Items.{IsBlockTree}
 use Rattle.skeleton_runs.proofs.Contiguous.{plane-contiguous}
 use Rattle.skel_compose.specs.Followers.{IsTable, IsTableOf}
 use Rattle.skel_decompose.specs.Followers.{IsInRuns}
-use Rattle.skel_decompose.proofs.Ahead.{some-family}
+use Rattle.skel_decompose.proofs.Around.{some-family}
 use Rattle.embed_tests.proofs.skeleton_members.table_of.Goals as goal
 
 -- the groups of a plane block are in runs

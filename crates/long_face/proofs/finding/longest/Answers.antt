@@ -5,7 +5,7 @@ use Rattle.pair_split.specs.Tutte.{Node}
 use Rattle.skel_embed.specs.Values.{as_moves}
 use Rattle.moves.specs.declared.values.Move.{Move}
 use Rattle.face_weights.specs.Numbers.{KnowFaces}
-use Rattle.face_weights.specs.Orders.{HangFromFirst, IsOrderOf}
+use Rattle.skel_decompose.specs.Orders.{HangFromFirst, IsOrderOf}
 use Rattle.face_weights.specs.Reached.{AreWeights}
 use Rattle.face_weights.specs.Weights.{weight_of}
 use Rattle.long_face.specs.Present.{AreStepsOf}

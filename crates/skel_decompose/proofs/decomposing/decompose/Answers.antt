@@ -1,6 +1,6 @@
 use Rattle.std.proofs.Common.{ℕ, List, subst, arith}
 use Rattle.skeletons.specs.Families.{AreSkeletonSystems, FollowsFamily}
-use Rattle.skel_decompose.proofs.Ahead.{some-family}
+use Rattle.skel_decompose.proofs.Around.{some-family}
 use Rattle.skel_decompose.proofs.Gathered.{members-more, members-all}
 use Rattle.skel_decompose.proofs.decomposing.decompose.Goals as goal
 

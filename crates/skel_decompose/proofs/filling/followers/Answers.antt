@@ -3,8 +3,8 @@ use Rattle.std.proofs.lemmas.Result.{IfOk-weaker}
 use Rattle.faces.specs.Steps.{AreFaceSteps}
 use Rattle.skel_decompose.proofs.filling.followers.Goals as goal
 
-pub followers_by_steps-requires : goal.followers_by_steps-requires
-followers_by_steps-requires c = record { steps = (c.args.r.now, c.requires.runs, subst (AreFaceSteps c.args.g.now c.args.r.now) (sym c.deref.ensures.value) c.in_ok-steps.ensures) }
+pub followers_by_steps-requires-clause-steps : goal.followers_by_steps-requires-clause-steps
+followers_by_steps-requires-clause-steps c = (c.args.r.now, c.requires.runs, subst (AreFaceSteps c.args.g.now c.args.r.now) (sym c.deref.ensures.value) c.in_ok-steps.ensures)
 
 pub returns-clause-followers : goal.returns-clause-followers
 returns-clause-followers c =

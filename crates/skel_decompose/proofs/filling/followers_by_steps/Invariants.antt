@@ -1,8 +1,8 @@
 use Rattle.std.proofs.Common.{ℕ, List}
 use Rattle.faces.specs.Steps.{AreFaceSteps}
 use Rattle.skel_compose.specs.Followers.{IsTable}
-use Rattle.skel_decompose.specs.Followers.{IsInRuns, IsFamily, HasLasts}
+use Rattle.skel_decompose.specs.Followers.{IsInRuns, IsFamily, HaveLasts}
 use Rattle.skel_decompose.proofs.filling.followers_by_steps.Given as goal
 
-abbrev pub invariant-loop-k : goal.invariant-loop-k
-invariant-loop-k l = IsTable l.tree l.table × ((r : List (List ℕ)) (family : List (List (List ℕ))) → IsInRuns l.g l.tree r → AreFaceSteps l.g r l.steps → IsFamily l.tree r family → HasLasts l.g l.tree r family l.k 0 l.table)
+abbrev pub invariant-loop-e : goal.invariant-loop-e
+invariant-loop-e l = IsTable l.tree l.table × ((r : List (List ℕ)) (family : List (List (List ℕ))) → IsInRuns l.g l.tree r → AreFaceSteps l.g r l.steps → IsFamily l.tree r family → HaveLasts l.g l.tree r family l.table l.e)

@@ -6,7 +6,7 @@ use Rattle.skeletons.specs.Families.{skeleton_graph, system_at}
 use Rattle.skel_compose.proofs.Rounds.{round-more}
 use Rattle.skel_decompose.proofs.Gathered.{some-item, items-start, item-around, item-next}
 use Rattle.skel_compose.specs.Followers.{row_at}
-use Rattle.skel_decompose.proofs.Written.{place-in}
+use Rattle.skel_decompose.proofs.Entries.{entry-place}
 use Rattle.skel_decompose.proofs.members.items_round.Goals as goal
 
 pub bounds-incident-0 : goal.bounds-incident-0
@@ -35,7 +35,7 @@ pub number-i-requires-clause-place : goal.number-i-requires-clause-place
 number-i-requires-clause-place c =
     let m = item-around c.requires.block.0 c.args.tree.now c.requires.block.1 c.args.k c.args.p c.requires.node c.requires.place c.requires.family.0 c.requires.family.1 c.loop-turn.i (get_or c.vertices.result.now c.args.p 0)
     (ap (λ (z : List ℕ). get_or z c.args.p 0) c.vertices.ensures) (c.loop-turn.invariant c.requires.family.0 c.requires.family.1 c.requires.family.2).1 in
-    omega (arith, c.item_place.ensures, place-in c.args.tree.now c.args.table.now c.requires.table c.args.k c.loop-turn.i (get_or c.vertices.result.now c.args.p 0) 0 m)
+    entry-place c.args.tree.now c.args.table.now c.requires.table c.args.k c.loop-turn.i (get_or c.vertices.result.now c.args.p 0) 0 m c.item_place.result c.item_place.ensures
 
 -- one item more
 pub loop-turn-preserved : goal.loop-turn-preserved

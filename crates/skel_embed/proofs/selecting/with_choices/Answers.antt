@@ -2,7 +2,7 @@ use Rattle.std.proofs.Common.{◌∙◌, length, ap}
 use Rattle.skeleton_runs.proofs.Contiguous.{plane-contiguous}
 use Rattle.skel_compose.specs.Followers.{IsTableOf}
 use Rattle.skel_decompose.specs.Followers.{IsInRuns}
-use Rattle.skel_decompose.proofs.Ahead.{some-family}
+use Rattle.skel_decompose.proofs.Around.{some-family}
 use Rattle.skel_embed.proofs.KeptKeys.{choices-by_many}
 use Rattle.skel_embed.proofs.RowTables.{table-made, table-of}
 use Rattle.skel_embed.proofs.Selected.{own-possible, present-choices, chosen-systems, all-chosen}

@@ -1,9 +1,0 @@
-use Rattle.faces.specs.Search.{unmarked_count}
-use Rattle.face_weights.specs.Ways.{IsClimbing}
-use Rattle.face_weights.proofs.ordering.climb.Given as goal
-
-abbrev pub invariant-loop-x : goal.invariant-loop-x
-invariant-loop-x l = IsClimbing l.parents l.k l.initial.placed l.placed l.way.items l.x
-
-abbrev pub decreases-loop-x : goal.decreases-loop-x
-decreases-loop-x l = unmarked_count l.placed

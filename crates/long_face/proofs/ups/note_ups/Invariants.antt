@@ -1,6 +1,0 @@
-use Rattle.std.proofs.Common.{◌≤◌}
-use Rattle.long_face.specs.Ups.{HaveUps}
-use Rattle.long_face.proofs.ups.note_ups.Given as goal
-
-abbrev pub invariant-loop-i : goal.invariant-loop-i
-invariant-loop-i l = (1 ≤ l.i) × HaveUps l.tree l.k l.i l.ups

@@ -1,6 +1,0 @@
-use Rattle.std.proofs.Common.{◌≡◌, ℕ, ◌<◌, length, slice_index_or}
-use Rattle.long_face.specs.Ups.{rank_at}
-use Rattle.long_face.proofs.ups.ranks_of.Given as goal
-
-abbrev pub invariant-loop-q : goal.invariant-loop-q
-invariant-loop-q l = (length l.ranks.items ≡ length l.tree) × ((h : ℕ) → h < l.q → rank_at l.ranks.items (slice_index_or l.order.nodes.items h 0) ≡ h)
