@@ -4,7 +4,7 @@ pub mod Hanging
 pub mod FirstParents
 pub mod Rerooting
 pub mod UpLists
-mod Around
+pub mod Around
 pub mod Below
 mod Entries
 mod Joins

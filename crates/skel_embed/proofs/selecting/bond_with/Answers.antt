@@ -1,17 +1,17 @@
 use Rattle.std.proofs.Common.{◌≡◌, ◌∙◌, ◌≤◌, List, true, length, map, sym, ap, subst}
 use Rattle.permutations.specs.Members.{is_member, place_of}
 use Rattle.multigraph.specs.Graph.{max_edges}
+use Rattle.multigraph.specs.Part.{Rises}
 use Rattle.pair_split.specs.declared.components.Item.{Item}
 use Rattle.skeletons.specs.Items.{item_key}
 use Rattle.skel_compose.specs.Followers.{IsRow, HasTurns}
 use Rattle.skel_compose.proofs.Found.{items-few}
-use Rattle.skel_decompose.proofs.Searched.{keys-rise}
 use Rattle.skel_embed.proofs.FirstRows.{if-ok}
 use Rattle.skel_embed.proofs.Selected.{key-held, numbers-once, numbers-below, numbers-few, bond-changed}
 use Rattle.skel_embed.proofs.selecting.bond_with.Goals as goal
 
 pub items_with-requires-clause-rises : goal.items_with-requires-clause-rises
-items_with-requires-clause-rises c = keys-rise c.requires.block.0 c.args.tree.now c.requires.block.1 c.args.k c.requires.node.0 c.items.result.now c.items.ensures
+items_with-requires-clause-rises c = subst (λ (z : List Item). Rises (map item_key z)) (sym c.items.ensures) (c.requires.block.1.tree.in_order.keys_rise c.args.k c.requires.node.0)
 
 pub items_with-requires-clause-few : goal.items_with-requires-clause-few
 items_with-requires-clause-few c = subst (λ (z : List Item). length z ≤ max_edges) (sym c.items.ensures) (items-few c.requires.block.0 c.args.tree.now c.requires.block.1 c.args.k c.requires.node.0 c.requires.block.2)

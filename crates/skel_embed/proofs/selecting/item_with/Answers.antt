@@ -1,7 +1,7 @@
 use Rattle.std.proofs.Common.{Ok, Err, rules, arith}
 use Rattle.std.proofs.lemmas.List.Sorted.{answers_always}
 use Rattle.pair_split.specs.declared.components.Item.{Item}
-use Rattle.skel_decompose.proofs.Searched.{searched}
+use Rattle.skel_embed.proofs.KeySearch.{searched}
 use Rattle.skel_embed.proofs.Selected.{item-held, item-place}
 use Rattle.skel_embed.proofs.selecting.item_with.Goals as goal
 
