@@ -11,7 +11,7 @@ use Rattle.pair_split.specs.declared.components.What.TheVariants.{Real, Link}
 use Rattle.pair_split.proofs.TreeSides.{link-back, beyond-other}
 use Rattle.skeletons.specs.Items.{IsBlockTree}
 use Rattle.spqr_tree.specs.Keys.{parent_at}
-use Rattle.spqr_tree.proofs.UpLinks.{link-to, link-once, link-within, node-in, comp-in, item-of}
+use Rattle.spqr_tree.proofs.UpLinks.{link-to, link-once, node-in, comp-in, item-of}
 use Rattle.face_weights.specs.Weights.{weight_by}
 use Rattle.skel_decompose.specs.Orders.{IsOrderOf}
 use Rattle.face_weights.specs.Passes.{LinkOnce}
@@ -54,11 +54,7 @@ module _ (g : Multigraph) (nodes : List Node) (b : IsBlockTree g nodes) (parents
   link : (k i j : ℕ) → i < length (node_at nodes k).items → (node_item nodes k i).what ≡ Link j → LinksTo comps k j
   link k i j l e = link-to g nodes tree b.block.has_edge k i j l e
 
-  -- it leads to a node
-  pub link-node : (k i j : ℕ) → i < length (node_at nodes k).items → (node_item nodes k i).what ≡ Link j → j < length nodes
-  link-node k i j l e = link-within g nodes tree b.block.has_edge k j (link k i j l e)
-
-  -- which has a link back
+  -- with a link back
   pub link-from : (k i j : ℕ) → i < length (node_at nodes k).items → (node_item nodes k i).what ≡ Link j → (h : ℕ) × (h < length (node_at nodes j).items) × ((node_item nodes j h).what ≡ Link k)
   link-from k i j l e = let w = link-back comps tree.split.linked k j (link k i j l e) in
       let h = item-of g nodes tree b.block.has_edge j w.0 (Link k) w.1 in (w.0, h.0, h.1)

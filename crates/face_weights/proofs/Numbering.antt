@@ -24,14 +24,10 @@ use Rattle.faces.proofs.MapSteps.{map-face}
 use Rattle.faces.proofs.Reaching.{steps-reach, reaches-through, reaches-back, reaches-ext}
 use Rattle.faces.proofs.Starts.{starts-whole, starts-through}
 use Rattle.faces.specs.Search.{unmarked_count}
-use Rattle.faces.proofs.Walk.{Walked, unmarked-less, walked-none, walked-more, walked-all}
+use Rattle.faces.proofs.Walk.{Walked, unmarked-less, walked-more, walked-all}
 use Rattle.skeleton_faces.specs.Faces.{on_one_face}
 use Rattle.spqr_tree.specs.Absent.{absent}
 use Rattle.face_weights.specs.Numbers.{number_at, marks_of, IsOrbitNumbered, AreOrbitsNumbered, NumberFaces}
-
--- a number that is one
-is_number : ℕ → Bool
-is_number x = not (x == absent)
 
 -- whether a dart has a number
 marked-at : (numbers : List ℕ) (x : ℕ) → x < length numbers → is_marked (marks_of numbers) x ≡ not (number_at numbers x == absent)
@@ -55,9 +51,6 @@ pub record NumberedUpTo (f : ℕ → ℕ) (old now : List ℕ) (start place : �
   pub walked : Walked f (marks_of old) (marks_of now) start place
   pub kept : (x : ℕ) → is_marked (marks_of old) x ≡ true → number_at now x ≡ number_at old x
   pub fresh : (x : ℕ) → is_marked (marks_of old) x ≡ false → is_marked (marks_of now) x ≡ true → number_at now x ≡ start
-
-pub upto-none : (f : ℕ → ℕ) (old : List ℕ) (start : ℕ) → NumberedUpTo f old old start start
-upto-none f old start = record { places = refl; walked = walked-none f (marks_of old) start; kept = λ x h. refl; fresh = λ x u m. absurd (both_ways (is_marked (marks_of old) x) u m) }
 
 -- one dart more
 module _ (f : ℕ → ℕ) (old now : List ℕ) (start place : ℕ) (w : NumberedUpTo f old now start place) (l : place < length now) (small : start < absent) (free : number_at now place ≡ absent) where
@@ -103,10 +96,6 @@ module _ (n : ℕ) (f : ℕ → ℕ) (p : IsPermutationBelow n f) where
   -- as the lemmas on marks have it
   found : (s : ℕ) (numbers : List ℕ) → AreOrbitsNumbered n f s numbers → FoundBelow (reaches n f) s (marks_of numbers) (count s (leads (reaches n f)))
   found s numbers a = record { marked = a.marked; counted = refl }
-
-  -- before the first orbit
-  pub orbits-none : (numbers : List ℕ) → length numbers ≡ n → ((x : ℕ) → is_marked (marks_of numbers) x ≡ false) → AreOrbitsNumbered n f 0 numbers
-  orbits-none numbers e h = record { places = e; marked = h; first = λ x m. absurd (both_ways (is_marked (marks_of numbers) x) (h x) m) }
 
   -- orbits are numbered whole
   pub orbits-whole : (s : ℕ) (numbers : List ℕ) → AreOrbitsNumbered n f s numbers → s ≤ n → AreWholeOrbits n f (marks_of numbers)

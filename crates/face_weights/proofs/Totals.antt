@@ -1,7 +1,6 @@
 -- Sums of the weights of the darts that have one number.
-use Rattle.std.proofs.Common.{◌≡◌, ℕ, zero, suc, add-one, ◌+◌, ◌*◌, ◌/◌, ◌<◌, ◌≤◌, ◌==◌, Bool, cond, inl, inr, List, length, slice_set, refl, sym, ap, ◌∙◌, subst, arith, eq-eqb}
-use Rattle.std.proofs.lemmas.Bool.{cases_Bool, cases_eq, ne_eqb}
-use Rattle.std.proofs.lemmas.List.{get_or-set_same, get_or-set_other}
+use Rattle.std.proofs.Common.{◌≡◌, ℕ, zero, suc, add-one, ◌+◌, ◌*◌, ◌/◌, ◌<◌, ◌≤◌, ◌==◌, Bool, cond, inl, inr, List, length, refl, sym, ap, ◌∙◌, subst, arith}
+use Rattle.std.proofs.lemmas.Bool.{cases_Bool, cases_eq}
 use Rattle.permutations.specs.Count.{sum_below}
 use Rattle.permutations.proofs.Sums.{sum_below-ext, sum_below-le}
 use Rattle.multigraph.specs.Graph.{Multigraph}
@@ -48,22 +47,6 @@ share-few numbers weights t d m most l few = omega (arith, less, rest, pairs, fe
       where
         halves : (i : ℕ) → weight_in weights ((2 * i) / 2) + weight_in weights ((2 * i + 1) / 2) ≡ weight_in weights i + weight_in weights i
         halves i = let a : (2 * i) / 2 ≡ i = omega arith in let b : (2 * i + 1) / 2 ≡ i = omega arith in omega (arith, ap (weight_in weights) a, ap (weight_in weights) b)
-
--- one dart more
-pub totals-more : (numbers weights totals : List ℕ) (d : ℕ) → number_at numbers d < length totals → ((t : ℕ) → t < length totals → weight_in totals t ≡ sum_below d (share numbers weights t))
-    → (t : ℕ) → t < length totals → weight_in (slice_set totals (number_at numbers d) (weight_in totals (number_at numbers d) + weight_in weights (d / 2))) t ≡ sum_below (d + 1) (share numbers weights t)
-totals-more numbers weights totals d l h t k = elim (cases_eq t (number_at numbers d)) [
-  | inl e ↦
-      let one : share numbers weights t d ≡ weight_in weights (d / 2) = ap (λ (b : Bool). cond b (weight_in weights (d / 2)) 0) (eq-eqb t (number_at numbers d) e) in
-      let new : weight_in (slice_set totals (number_at numbers d) (weight_in totals (number_at numbers d) + weight_in weights (d / 2))) t ≡ weight_in totals (number_at numbers d) + weight_in weights (d / 2) =
-      ap (weight_in (slice_set totals (number_at numbers d) (weight_in totals (number_at numbers d) + weight_in weights (d / 2)))) e ∙ get_or-set_same totals (number_at numbers d) (weight_in totals (number_at numbers d) + weight_in weights (d / 2)) 0 l in
-      omega (arith, new, one, h t k, ap (weight_in totals) e, sum-more d (share numbers weights t))
-  | inr n ↦
-      let one : share numbers weights t d ≡ 0 = ap (λ (b : Bool). cond b (weight_in weights (d / 2)) 0) (ne_eqb t (number_at numbers d) n) in
-      let new : weight_in (slice_set totals (number_at numbers d) (weight_in totals (number_at numbers d) + weight_in weights (d / 2))) t ≡ weight_in totals t =
-      get_or-set_other totals (number_at numbers d) t (weight_in totals (number_at numbers d) + weight_in weights (d / 2)) 0 n in
-      omega (arith, new, one, h t k, sum-more d (share numbers weights t))
-]
 
 -- the sum of the number of a dart is the weight of its face
 pub share-face : (g : Multigraph) (r : List (List ℕ)) (numbers weights : List ℕ) → NumberFaces g r numbers → (d : ℕ) → d < dart_count g → sum_below (length numbers) (share numbers weights (number_at numbers d)) ≡ face_weight g r (weight_in weights) d

@@ -19,7 +19,7 @@
 //
 // The lemmas (module of proofs/ in front):
 //   Numbering    upto-more, orbits-more, steps-tell: orbits numbered along their steps, and that the numbers tell the faces
-//   Totals       totals-more, total-face: the weights of the darts that have one number, which is the weight of a face
+//   Totals       total-face: the weights of the darts that have one number are the weight of a face
 //   FaceBounds   face-twice, face-other: how heavy a face is, and that an edge on two faces adds its weight once
 //   LinkFaces    link-faces: the darts of a link lie on two faces
 //   RestLemmas   rest-once, rest-other, rest-light: there is one rest, it does not depend on the item, and it is small

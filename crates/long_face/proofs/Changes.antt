@@ -35,10 +35,6 @@ follow-next keys place key once s n = subst (λ (l : List ℕ). successor l key 
     go [] d m = absurd (m (sym (length-append s.front (key ∷ []))))
     go (z ∷ back) d m = outside s.front key (z ∷ back) d ∙ sym (after-all s.front key z back (place + 1) (ap (λ n. n + 1) (sym s.before)))
 
--- and it is within the list
-pub next-within : (keys : List ℕ) (place key : ℕ) → StandsAt keys place key → place + 1 ≤ length keys
-next-within keys place key s = omega (arith, ap length s.is, length-append s.front (key ∷ s.back), s.before)
-
 -- the move towards the present choice, and towards another
 pub towards-kept : (nodes : List Node) (r : List (List ℕ)) (k : ℕ) (keys : List ℕ) → choice nodes r k ≡ keys → move_towards nodes r k keys ≡ []
 towards-kept nodes r k keys e = ap (λ z. cond z [] (move_of_kind (node_at nodes k).kind k keys)) (is-same (choice nodes r k) keys e)

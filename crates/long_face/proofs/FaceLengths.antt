@@ -16,22 +16,6 @@ use Rattle.long_face.specs.Longest.{HasFace}
 use Rattle.long_face.specs.Present.{AreStepsOf}
 use Rattle.long_face.proofs.Lengths.{listed-dart, dart-listed}
 
--- one dart more
-pub counts-more : (numbers counts : List ℕ) (d : ℕ) → number_at numbers d < length counts → ((t : ℕ) → t < length counts → weight_in counts t ≡ count d (λ y. t == number_at numbers y))
-    → (t : ℕ) → t < length counts → weight_in (slice_set counts (number_at numbers d) (weight_in counts (number_at numbers d) + 1)) t ≡ count (d + 1) (λ y. t == number_at numbers y)
-counts-more numbers counts d l h t k = elim (cases_eq t (number_at numbers d)) [
-  | inl e ↦
-      let one : (t == number_at numbers d) ≡ true = eq-eqb t (number_at numbers d) e in
-      let new : weight_in (slice_set counts (number_at numbers d) (weight_in counts (number_at numbers d) + 1)) t ≡ weight_in counts (number_at numbers d) + 1 =
-      ap (weight_in (slice_set counts (number_at numbers d) (weight_in counts (number_at numbers d) + 1))) e ∙ get_or-set_same counts (number_at numbers d) (weight_in counts (number_at numbers d) + 1) 0 l in
-      omega (arith, new, h t k, ap (weight_in counts) e, count-yes d (λ y. t == number_at numbers y) one)
-  | inr n ↦
-      let one : (t == number_at numbers d) ≡ false = ne_eqb t (number_at numbers d) n in
-      let new : weight_in (slice_set counts (number_at numbers d) (weight_in counts (number_at numbers d) + 1)) t ≡ weight_in counts t =
-      get_or-set_other counts (number_at numbers d) t (weight_in counts (number_at numbers d) + 1) 0 n in
-      omega (arith, new, h t k, count-no d (λ y. t == number_at numbers y) one)
-]
-
 -- a number of a list
 any-at : (x : ℕ) (l : List ℕ) → list_any (λ y. y == x) l ≡ true → (d : ℕ) × (d < length l) × (weight_in l d ≡ x)
 any-at x [] t = absurd (both_ways false refl t)

@@ -12,7 +12,7 @@ use Rattle.pair_split.specs.Tutte.{Node, node_at, node_item, group, IsTutte}
 use Rattle.pair_split.specs.declared.components.What.TheVariants.{Real}
 use Rattle.skeletons.specs.Items.{ends_item, has_vertex}
 use Rattle.skeletons.specs.Families.{system_at, keys_in}
-use Rattle.skeletons.proofs.NodeItems.{keys-once, group-item, item-vertex, edge-end}
+use Rattle.skeletons.proofs.NodeItems.{keys-once, item-vertex}
 use Rattle.skeletons.proofs.Places.{round-item, item-round, contiguous-follows}
 use Rattle.skel_compose.proofs.Walk.{LeadsOn, order-edge_at, starts}
 use Rattle.skel_compose.specs.Followers.{follower}
@@ -39,12 +39,6 @@ module _ (g : Multigraph) (nodes : List Node) (r : List (List ℕ)) (d : IsInRun
   abbrev next : ℕ
   next = successor (order_at r v) e
 
-  ln : next < edge_count g
-  ln = (next-edge g nodes r d v e le ve).1
-
-  vn : is_end g v next ≡ true
-  vn = (next-edge g nodes r d v e le ve).2
-
   -- at home an edge leads to the next one
   pub home-leads : (k i : ℕ) → k < length nodes → i < length (node_at nodes k).items → (node_item nodes k i).what ≡ Real e → LeadsOn nodes family v e next k i
   home-leads k i dk l w = starts g nodes d.block family m.systems r d.system m.follows v e le ve k i dk l w
@@ -53,9 +47,6 @@ module _ (g : Multigraph) (nodes : List Node) (r : List (List ℕ)) (d : IsInRun
   module _ (k i p : ℕ) (on : LeadsOn nodes family v e next k i) (lp : p < length (node_at nodes k).items) (kp : (node_item nodes k p).key ≡ group nodes k next) where
     has : has_vertex nodes k v ≡ true
     has = item-vertex g nodes t k v i on.is_node on.is_item on.end
-
-    ep : ends_item v (node_item nodes k p) ≡ true
-    ep = edge-end g nodes t k v p next has lp ln vn (group-item g nodes t k p next on.is_node lp ln (sym kp))
 
     behind : (node_item nodes k p).key ≡ successor (keys_in nodes family k v) (node_item nodes k i).key
     behind = kp ∙ sym on.behind

@@ -9,8 +9,8 @@ use Rattle.skel_compose.specs.Followers.{HasFollowers, IsTable}
 use Rattle.skel_decompose.specs.Followers.{IsFamily, IsInRuns}
 use Rattle.long_face.proofs.numbers.other_followers.Goals as goal
 
-pub followers_by_climbs-requires-clause-steps : goal.followers_by_climbs-requires-clause-steps
-followers_by_climbs-requires-clause-steps c =
+pub followers_by_steps-requires-clause-steps : goal.followers_by_steps-requires-clause-steps
+followers_by_steps-requires-clause-steps c =
     let s = c.args.p.now in
     let runs : IsInRuns s.graph s.tree s.rotation = record { block = c.belongs.ensures.block; limits = subst IsWithinLimits c.graph.ensures.value c.keeps_limits.ensures.limits; system = c.belongs.ensures.plane.system; runs = plane-contiguous s.graph s.tree s.rotation c.belongs.ensures.block c.belongs.ensures.plane } in (
       s.rotation,
@@ -21,11 +21,11 @@ followers_by_climbs-requires-clause-steps c =
 pub returns-then-some_read : goal.returns-then-some_read
 returns-then-some_read c = λ k l h q.
     let s = c.args.p.now in
-    let table = c.in_ok-followers_by_climbs.field-0 in
+    let table = c.in_ok-followers_by_steps.field-0 in
     let runs : IsInRuns s.graph s.tree s.rotation = record { block = c.belongs.ensures.block; limits = subst IsWithinLimits c.graph.ensures.value c.keeps_limits.ensures.limits; system = c.belongs.ensures.plane.system; runs = plane-contiguous s.graph s.tree s.rotation c.belongs.ensures.block c.belongs.ensures.plane } in (
-      subst (λ (z : List Node). IsTable z table) c.tree-then-some_read.ensures.value c.in_ok-followers_by_climbs.ensures.table,
+      subst (λ (z : List Node). IsTable z table) c.tree-then-some_read.ensures.value c.in_ok-followers_by_steps.ensures.table,
       λ family m. subst (λ (z : List Node). HasFollowers z family table) c.tree-then-some_read.ensures.value
-          (c.in_ok-followers_by_climbs.ensures.followers s.rotation family
+          (c.in_ok-followers_by_steps.ensures.followers s.rotation family
           (subst (λ z. IsInRuns z c.tree-then-some_read.result.now s.rotation) (sym c.graph-then-some_read.ensures.value) (subst (λ (z : List Node). IsInRuns s.graph z s.rotation) (sym c.tree-then-some_read.ensures.value) runs))
           (subst (λ z. AreFaceSteps z s.rotation c.args.block_steps.now) (sym c.graph-then-some_read.ensures.value) c.requires.steps)
           (subst (λ (z : List Node). IsFamily z s.rotation family) (sym c.tree-then-some_read.ensures.value) m)),
