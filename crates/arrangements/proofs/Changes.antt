@@ -1,6 +1,6 @@
 -- How often the block changes along a list: where blocks b and c cross their edges alternate, and the other way around.
 use Rattle.std.proofs.Common.{◌≡◌, ◌≢◌, ℕ, ◌+◌, ◌<◌, ◌≤◌, ◌⊎◌, ◌↔◌, inl, inr, Bool, true, false, ◌||◌, ◌==◌, nat_lt, List, [], ◌∷◌, ◌++◌, length, filter, refl, sym, ap, ap₂, ◌∙◌, subst, arith, append_assoc, append-nil}
-use Rattle.std.proofs.lemmas.Bool.{cases_Bool, cases_eq, both_ways, or_cases, or_left, or_right, eq-eqb, ne_eqb, eqb-true, lt-ltb, ltb-true, true≢false, false_from_ne_true}
+use Rattle.std.proofs.lemmas.Bool.{cases_Bool, cases_eq, or_cases, or_left, or_right, eq-eqb, ne_eqb, eqb-true, lt-ltb, ltb-true, true≢false}
 use Rattle.permutations.specs.Members.{is_member, is_distinct}
 use Rattle.permutations.specs.Cyclic.{IsTurn, Follows, FollowsAround}
 use Rattle.permutations.proofs.Members.{member-head, member-tail, member-cases, member-append_right, member-append_cases, distinct-append_right, distinct-tail}
@@ -442,20 +442,3 @@ cross-edges block b c l h = elim (cross-interleaved block b c l h) [
           (member-tail i.y i.x (i.near ++ i.y ∷ (i.middle ++ i.z ∷ i.back))
           (member-append_right i.y i.near (i.y ∷ (i.middle ++ i.z ∷ i.back)) (member-head i.y (i.middle ++ i.z ∷ i.back))))),
     )
-
--- where no blocks cross, edges that alternate are all of one block
-pub apart-one_block : (block : ℕ → ℕ) (l : List ℕ) → ((b c : ℕ) → cross block b c l ≡ false)
-    → (a b c d : ℕ) → FollowsAround l (a ∷ b ∷ c ∷ d ∷ []) → block a ≡ block c → block b ≡ block d → block a ≡ block b
-apart-one_block block l none a b c d f p q = elim (cases_eq (block a) (block b)) [
-  | inl e ↦ e
-  | inr n ↦ absurd (both_ways (cross block (block a) (block b) l) (none (block a) (block b))
-      (alternate-cross block (block a) (block b) l n (record { first = a; second = b; third = c; fourth = d; around = f; of_first = refl; of_second = refl; of_third = sym p; of_fourth = sym q })))
-]
-
--- where edges that alternate are all of one block, no blocks cross
-pub one_block-apart : (block : ℕ → ℕ) (l : List ℕ) → is_distinct l ≡ true
-    → ((a b c d : ℕ) → FollowsAround l (a ∷ b ∷ c ∷ d ∷ []) → block a ≡ block c → block b ≡ block d → block a ≡ block b)
-    → (b c : ℕ) → cross block b c l ≡ false
-one_block-apart block l d one b c = false_from_ne_true (cross block b c l) (λ h.
-    let a = cross-alternate block b c l d h in
-    cross-differ block b c l h (sym a.of_first ∙ one a.first a.second a.third a.fourth a.around (a.of_first ∙ sym a.of_third) (a.of_second ∙ sym a.of_fourth) ∙ a.of_second))

@@ -1,25 +1,13 @@
 -- The groups of blocks that cross, place by place: what is kept when groups are finished, when one begins, and when some become one.
-use Rattle.std.proofs.Common.{◌≡◌, ◌≢◌, ℕ, ◌+◌, ◌<◌, ◌≤◌, ◌⊎◌, inl, inr, Bool, true, false, List, [], ◌∷◌, ◌++◌, length, take, ◌-◌, slice_index, refl, sym, ap, ◌∙◌, subst, arith, append_assoc, length-append, true≢false}
-use Rattle.std.proofs.lemmas.Bool.{cases_eq, cases_lt, cases_order, false_from_ne_true}
+use Rattle.std.proofs.Common.{◌≡◌, ◌≢◌, ℕ, ◌+◌, ◌<◌, ◌≤◌, ◌⊎◌, inl, inr, Bool, true, false, List, [], ◌∷◌, ◌++◌, length, take, ◌-◌, slice_index, refl, sym, ap, ◌∙◌, subst, arith, append_assoc, length-append}
+use Rattle.std.proofs.lemmas.Bool.{cases_eq, cases_lt, cases_order}
 use Rattle.std.proofs.lemmas.List.{get_or-take, length-take-le, get_or-set_same, get_or-set_other}
 use Rattle.std.proofs.Math.ListN.{get_or-append, set, length-set}
 use Rattle.std.proofs.Math.Seq.{get_or-append_seam}
 use Rattle.permutations.proofs.Members.{CutAt, cut_at}
-use Rattle.arrangements.specs.Crossings.{cross_ranks}
 use Rattle.arrangements.specs.Groups.{AreEnds, is_noted, IsInGroup, AlternateAt, AreGroups, AreNoted}
 use Rattle.arrangements.proofs.Changes.{Interleaved, cross-interleaved}
 use Rattle.arrangements.proofs.Lists.{place-cut}
-
--- at the start there is no group
-pub groups-start : (ranks first last : List ℕ) (noted : List Bool) → AreGroups ranks first last [] [] noted 0
-groups-start ranks first last noted = record {
-  each = refl;
-  few = omega arith;
-  started = λ k h. absurd (omega (arith, h));
-  increasing = λ j k l h. absurd (omega (arith, h));
-  held = λ p h. absurd (omega (arith, h));
-  found = λ p q r s a h. absurd (omega (arith, h));
-}
 
 -- the number of a list read without those from a place on
 kept : (count : ℕ) (l : List ℕ) (k : ℕ) → k < count → slice_index (take count l) k ≡ slice_index l k
@@ -405,10 +393,6 @@ all-noted ranks first last starts ends noted s b c h = elim (cross-interleaved (
         t : (is_noted noted (slice_index ranks (length i.front)) ≡ true) × (is_noted noted (slice_index ranks (length (i.front ++ i.x ∷ i.near))) ≡ true)
         t = s.found (length i.front) (length (i.front ++ i.x ∷ i.near)) (length ((i.front ++ i.x ∷ i.near) ++ i.y ∷ i.middle)) (length (((i.front ++ i.x ∷ i.near) ++ i.y ∷ i.middle) ++ i.z ∷ g.front)) a
             (omega (arith, a.third, a.within))
-
--- a block that is not noted crosses no other
-pub not-noted : (ranks : List ℕ) (noted : List Bool) (b : ℕ) → AreNoted ranks noted → is_noted noted b ≡ false → (c : ℕ) → cross_ranks b c ranks ≡ false
-not-noted ranks noted b all f c = false_from_ne_true (cross_ranks b c ranks) (λ t. absurd (true≢false (sym (all b c t) ∙ f)))
 
 -- a rank more that is noted
 noted-set : (noted : List Bool) (b r : ℕ) → b < length noted → is_noted noted r ≡ true → is_noted (set noted b true) r ≡ true

@@ -1,7 +1,7 @@
 -- Lists built edge by edge, by their prefixes.
 use Rattle.std.proofs.Common.{◌≡◌, ◌≢◌, ℕ, add-one, zero, suc, ◌+◌, ◌<◌, ◌≤◌, true, List, [], ◌∷◌, length, take, drop, get_or, refl, sym, ap, ◌∙◌, subst, arith}
 use Rattle.std.proofs.Math.ListN.{set}
-use Rattle.std.proofs.lemmas.List.{take-append-drop, take_more, take_more_set, take_all, take-set, take-set-le, get_or-set_same, get_or-set_other, get_or-take}
+use Rattle.std.proofs.lemmas.List.{take-append-drop, take_more, take_more_set, take-set, take-set-le, get_or-set_same, get_or-set_other, get_or-take}
 use Rattle.arrangements.specs.Options.{is_option, IsBuilt, IsLeastOption}
 use Rattle.arrangements.proofs.Waiting.{built-front, built-more}
 
@@ -12,10 +12,6 @@ built-take block follow edges l n h = built-front block follow edges (take n l) 
 -- one edge more
 pub built-next : (block follow : ℕ → ℕ) (edges l : List ℕ) (n : ℕ) → n < length l → IsBuilt block follow edges (take n l) → is_option block follow edges (take n l) (get_or l n 0) ≡ true → IsBuilt block follow edges (take (n + 1) l)
 built-next block follow edges l n h b o = subst (IsBuilt block follow edges) (sym (take_more l n 0 h)) (built-more block follow edges (take n l) (get_or l n 0) b o)
-
--- all edges
-pub built-all : (block follow : ℕ → ℕ) (edges l : List ℕ) (n : ℕ) → length l ≤ n → IsBuilt block follow edges (take n l) → IsBuilt block follow edges l
-built-all block follow edges l n h b = subst (IsBuilt block follow edges) (take_all n l h) b
 
 -- filled from a place on, it is built
 pub built-filled : (block follow : ℕ → ℕ) (edges l : List ℕ) (from k : ℕ) → from + k ≤ length l → IsBuilt block follow edges (take from l)

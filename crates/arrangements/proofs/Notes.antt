@@ -1,8 +1,8 @@
--- What is noted of the empty prefix, and of a prefix with one edge more.
-use Rattle.std.proofs.Common.{◌≡◌, ℕ, ◌+◌, ◌-◌, ◌<◌, ◌≤◌, inl, inr, Bool, true, false, ◌&&◌, ◌==◌, nat_lt, if◌then◌else◌, List, [], ◌∷◌, ◌++◌, length, map, take, drop, get_or, replicate, refl, sym, ap, ◌∙◌, subst, arith, length-append}
+-- What is noted of a prefix with one edge more.
+use Rattle.std.proofs.Common.{◌≡◌, ℕ, ◌+◌, ◌-◌, ◌<◌, ◌≤◌, inl, inr, Bool, true, false, ◌&&◌, ◌==◌, nat_lt, if◌then◌else◌, List, [], ◌∷◌, ◌++◌, length, map, take, drop, get_or, refl, sym, ap, ◌∙◌, subst, arith, length-append}
 use Rattle.std.specs.Vec.{vec_capacity}
 use Rattle.std.proofs.lemmas.Bool.{cases_Bool, both_ways, cond-true, cond-false}
-use Rattle.std.proofs.lemmas.List.{get_or-replicate, length-replicate, length-take-le, take-append-drop, take_more}
+use Rattle.std.proofs.lemmas.List.{length-take-le, take-append-drop, take_more}
 use Rattle.std.proofs.Math.ListN.{set, length-set}
 use Rattle.permutations.specs.Members.{is_member, place_of}
 use Rattle.permutations.specs.Cyclic.{last_or}
@@ -15,14 +15,6 @@ use Rattle.arrangements.specs.declared.prefixes.Prefix.{Prefix}
 use Rattle.arrangements.proofs.Waiting.{built-front, built-cut}
 use Rattle.arrangements.proofs.Noted.{used-laid, opened-laid, rising-distinct}
 use Rattle.arrangements.proofs.Laid.{stack-finished, stack-waits}
-
--- of the empty prefix nothing is noted
-pub prefix-empty : (t : VertexTables) (block : ℕ → ℕ) (order : ℕ → List ℕ) → IsTables t → IsPrefix t (replicate (length t.edges) false) (replicate (length t.edges) false) [] [] block order
-prefix-empty t block order i = record {
-  is_used = λ p h. get_or-replicate (length t.edges) p false false h;
-  is_open = λ p h. get_or-replicate (length t.edges) (get_or t.ranks p 0) false false (i.rank_below p h);
-  is_stack = refl;
-}
 
 -- of one edge more
 pub prefix-laid : (t : VertexTables) (used opened : List Bool) (stack prefix : List ℕ) (block : ℕ → ℕ) (order : ℕ → List ℕ) (e : ℕ)
@@ -130,16 +122,3 @@ noted-pushed t s k list i w h m n us os room y is = noted-after t s k list i w h
       ]
     ])
     (is ∙ sym (cond-false (get_or (set s.used.items (place_of t.edges (get_or list i 0)) true) (place_of t.edges (follow_in t (get_or list i 0))) false) (without_top s.stack.items (get_or list i 0)) (without_top s.stack.items (get_or list i 0) ++ follow_in t (get_or list i 0) ∷ []) y))
-
--- what is noted of no edges
-pub noted-empty : (t : VertexTables) (k : Prefix) → IsTables t → k.used.items ≡ replicate (length t.edges) false → k.opened.items ≡ replicate (length t.edges) false → k.stack.items ≡ []
-    → length t.edges ≤ vec_capacity k.stack → IsNoted t k []
-noted-empty t k w us os is room = record {
-  room = record { used_each = ap length us ∙ length-replicate (length t.edges) false; opened_each = ap length os ∙ length-replicate (length t.edges) false; room = room };
-  depth = omega (arith, ap length is);
-  within = λ x m. absurd (both_ways (is_member x []) refl (subst (λ (z : List ℕ). is_member x z ≡ true) is m));
-  right = λ block order a b.
-      subst (λ (u : List Bool). IsPrefix t u k.opened.items k.stack.items [] block order) (sym us)
-      (subst (λ (v : List Bool). IsPrefix t (replicate (length t.edges) false) v k.stack.items [] block order) (sym os)
-      (subst (λ (z : List ℕ). IsPrefix t (replicate (length t.edges) false) (replicate (length t.edges) false) z [] block order) (sym is) (prefix-empty t block order w)));
-}

@@ -1,11 +1,10 @@
 -- The pass for a block through a list of ranks, place by place, and what it shows at the end.
-use Rattle.std.proofs.Common.{◌≡◌, ◌≢◌, ℕ, ◌+◌, ◌<◌, ◌≤◌, ◌⊎◌, inl, inr, true, false, ◌==◌, List, [], ◌∷◌, length, take, get_or, slice_index, refl, sym, ap, ◌∙◌, subst, arith}
+use Rattle.std.proofs.Common.{◌≡◌, ◌≢◌, ℕ, ◌+◌, ◌<◌, ◌≤◌, ◌⊎◌, inl, inr, false, ◌==◌, List, [], ◌∷◌, length, take, get_or, slice_index, refl, sym, ap, ◌∙◌, subst, arith}
 use Rattle.std.proofs.Math.ListN.{set, length-set}
 use Rattle.std.proofs.lemmas.Bool.{cases_Bool, cases_eq, cases_lt, both_ways, false_from_ne_true}
 use Rattle.std.proofs.lemmas.List.{take_more, get_or-set_same, get_or-set_other, length-take-le}
 use Rattle.permutations.proofs.Places.{place-of}
 use Rattle.arrangements.specs.Arranged.{of_block}
-use Rattle.arrangements.specs.Refused.{IsLeastCrossing}
 use Rattle.arrangements.specs.Gaps.{edges_before, gap}
 use Rattle.arrangements.specs.Crossings.{count_rank, cross_ranks, no_gap, IsPassed, IsLeastCrossed}
 use Rattle.arrangements.proofs.Changes.{cross-edges, cross-differ}
@@ -14,12 +13,6 @@ use Rattle.arrangements.proofs.Gaps.{count_of, count-append, count-own, count-ot
 -- a rank is its own block
 abbrev itself : ℕ → ℕ
 itself r = r
-
--- one place more that has an edge of the block
-pub before-own : (b : ℕ) (ranks : List ℕ) (i : ℕ) → i < length ranks → slice_index ranks i ≡ b → edges_before (λ r. r) b ranks (i + 1) ≡ edges_before (λ r. r) b ranks i + 1
-before-own b ranks i h e =
-    ap (count_of itself b) (take_more ranks i 0 h) ∙ count-append itself b (take i ranks) (get_or ranks i 0 ∷ [])
-    ∙ ap (λ (z : ℕ). count_of itself b (take i ranks) + z) (count-own itself b (get_or ranks i 0) [] e)
 
 -- one place more that has another edge
 pub before-other : (b : ℕ) (ranks : List ℕ) (i : ℕ) → i < length ranks → slice_index ranks i ≢ b → edges_before (λ r. r) b ranks (i + 1) ≡ edges_before (λ r. r) b ranks i
@@ -50,33 +43,11 @@ gap-bound b ranks i h = elim (cases_Bool (edges_before itself b ranks i == lengt
 pub gap-noted : (b : ℕ) (ranks : List ℕ) (i g : ℕ) → i < length ranks → length ranks < 4294967296 → g ≡ gap (λ r. r) b ranks i → g ≢ no_gap
 gap-noted b ranks i g h few e n = absurd (omega (arith, gap-bound b ranks i (omega (arith, h)), e, n, h, few))
 
--- at the start nothing is noted
-pub passed-start : (b : ℕ) (ranks met : List ℕ) → ((c : ℕ) → c < length met → slice_index met c ≡ no_gap) → IsPassed b ranks met 0 0 (length met)
-passed-start b ranks met h = record {
-  count = refl;
-  each = λ p l n. absurd (omega (arith, l));
-  some = λ c l n. absurd (n (h c l));
-  within = omega arith;
-  below = λ c p l n q e. absurd (omega (arith, q));
-  found = λ l. absurd (omega (arith, l));
-}
-
 -- a place up to i + 1 is before i, or is i
 place-cases : (p i : ℕ) → p < i + 1 → (p < i) ⊎ (i ≡ p)
 place-cases p i h = elim (cases_lt p i) [ inl l ↦ inl l | inr g ↦ inr (omega (arith, h, g)) ]
 
 module _ (b : ℕ) (ranks met : List ℕ) (i before least : ℕ) (within : i < length ranks) (s : IsPassed b ranks met i before least) where
-  -- an edge of the block itself
-  pub passed-own : slice_index ranks i ≡ b → IsPassed b ranks met (i + 1) (before + 1) least
-  passed-own e = record {
-    count = ap (λ (z : ℕ). z + 1) s.count ∙ sym (before-own b ranks i within e);
-    each = λ p l n. elim (place-cases p i l) [ inl a ↦ s.each p a n | inr q ↦ absurd (n (ap (slice_index ranks) (sym q) ∙ e)) ];
-    some = λ c l n. let w = s.some c l n in (w.0, omega (arith, w.1), w.2, w.3);
-    within = s.within;
-    below = λ c p l n q k. elim (place-cases p i q) [ inl a ↦ s.below c p l n a k | inr z ↦ absurd (n (sym k ∙ ap (slice_index ranks) (sym z) ∙ e)) ];
-    found = s.found;
-  }
-
   -- an edge of another block
   module _ (c g : ℕ) (at : slice_index ranks i ≡ c) (differs : c ≢ b) (here : g ≡ gap (λ r. r) b ranks i) where
     count : before ≡ edges_before itself b ranks (i + 1)
@@ -204,19 +175,6 @@ pub passed-found : (b : ℕ) (ranks met : List ℕ) (before least : ℕ) → IsP
 passed-found b ranks met before least s h = record {
   crosses = let w = s.found h in gaps-cross itself b least ranks w.0 w.1.p w.1.q w.1.order w.1.within w.1.of_p w.1.of_q w.1.differ;
   least = λ e k. elim (cases_lt e least) [ inl a ↦ absurd (both_ways (cross_ranks b e ranks) (one-gap b ranks met before least s e a) k) | inr g ↦ g ];
-}
-
--- the least rank that crosses another, with the least that it crosses
-pub crossed-least : (ranks : List ℕ) (b c : ℕ) → ((d e : ℕ) → d < b → cross_ranks d e ranks ≡ false) → IsLeastCrossed b ranks c → IsLeastCrossing (λ r. r) ranks b c
-crossed-least ranks b c none w = record {
-  crosses = w.crosses;
-  least = λ d e k. elim (cases_lt b d) [
-    | inl a ↦ inl a
-    | inr g ↦ elim (cases_lt d b) [
-      | inl a ↦ absurd (both_ways (cross_ranks d e ranks) (none d e a) k)
-      | inr f ↦ let q : b ≡ d = omega (arith, g, f) in inr (q, w.least e (subst (λ (z : ℕ). cross_ranks z e ranks ≡ true) (sym q) k))
-    ]
-  ];
 }
 
 -- where none below a bound crosses, and no rank reaches it, none does

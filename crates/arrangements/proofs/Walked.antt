@@ -1,8 +1,7 @@
 -- Lists built edge by edge are the arrangements of the list, by their places.
-use Rattle.std.proofs.Common.{◌≡◌, ◌↔◌, ℕ, ◌<◌, true, false, List, [], ◌∷◌, length, take, get_or, Contains, refl, sym, ◌∙◌, arith}
+use Rattle.std.proofs.Common.{◌≡◌, ◌↔◌, ℕ, ◌<◌, true, false, List, [], length, take, get_or, Contains, sym, ◌∙◌}
 use Rattle.std.proofs.lemmas.Bool.{both_ways}
 use Rattle.permutations.specs.Members.{is_member}
-use Rattle.permutations.specs.Cyclic.{first_or}
 use Rattle.permutations.proofs.Arrangements.{permutation-member}
 use Rattle.choice_lists.specs.Order.{IsAt}
 use Rattle.choice_lists.proofs.Places.{has-from}
@@ -42,10 +41,3 @@ pub not-full : (block : ℕ → ℕ) (order : ℕ → List ℕ) (edges l : List 
 not-full block order edges l i o h n f =
     let b = built-take block (follower block order) edges l i f.built in
     both_ways (is_member (get_or l i 0) edges) n (new-edge block order edges o (take i l) (get_or l i 0) (facts block order edges o (take i l) b) (f.built i h)).0
-
--- lists of one length begin alike
-pub begin-same : (l k : List ℕ) → length l ≡ length k → get_or l 0 0 ≡ get_or k 0 0 → first_or 0 l ≡ first_or 0 k
-begin-same [] [] n e = refl
-begin-same [] (y ∷ k) n e = absurd (omega (arith, n))
-begin-same (x ∷ l) [] n e = absurd (omega (arith, n))
-begin-same (x ∷ l) (y ∷ k) n e = e

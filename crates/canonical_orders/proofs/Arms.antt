@@ -116,12 +116,6 @@ module _ (m : ℕ) (h : Multigraph) (next previous : ℕ → ℕ) (t : IsTriangu
       apart : is_distinct (r.x ∷ r.y ∷ r.back) ≡ true
       apart = distinct-append_right (r.first ∷ r.front) (r.x ∷ r.y ∷ r.back) (subst (λ (s : List ℕ). is_distinct s ≡ true) r.cut (contour-distinct m h next previous t base l before contour c))
 
-  -- x is not y
-  pub x-differs : r.x ≢ r.y
-  x-differs e = both_ways (is_member r.x (r.y ∷ r.back)) (distinct-head r.x (r.y ∷ r.back)
-      (distinct-append_right (r.first ∷ r.front) (r.x ∷ r.y ∷ r.back) (subst (λ (s : List ℕ). is_distinct s ≡ true) r.cut (contour-distinct m h next previous t base l before contour c))))
-      (subst (λ (z : ℕ). is_member z (r.y ∷ r.back) ≡ true) (sym e) (member-head r.y r.back))
-
   -- x leads to the left neighbour, and y to the removed vertex
   pub x-leads : tail h (twin r.x) ≡ tail h dart-left
   unfolding lefts

@@ -97,10 +97,6 @@ module _ (m : ℕ) (f g : ℕ → ℕ) (keep : ℕ → Bool) (t : ℕ → ℕ) (
   abbrev at_end : ℕ → Bool
   at_end d = (t d == t chord) || (t d == t (twin chord))
 
-  -- a dart that leaves no end
-  not_at_end : (d : ℕ) → t d ≢ t chord → t d ≢ t (twin chord) → at_end d ≡ false
-  not_at_end d a c = or_from (t d == t chord) (t d == t (twin chord)) (ne_eqb (t d) (t chord) a) (ne_eqb (t d) (t (twin chord)) c)
-
   -- a dart with the number of an end leaves this end
   first_at_end : (d : ℕ) → t d ≡ t chord → at_end d ≡ true
   first_at_end d e = grind (arith, eq-eqb (t d) (t chord) e)

@@ -1,5 +1,5 @@
 -- One more, or one less, at each vertex of a list, step by step.
-use Rattle.std.proofs.Common.{◌≡◌, ◌≢◌, ℕ, ◌+◌, ◌-◌, ◌<◌, inl, inr, Bool, true, false, ◌||◌, cond, List, [], ◌∷◌, ◌++◌, length, map, take, drop, slice_index, slice_set, refl, sym, ap, ◌∙◌, subst, arith}
+use Rattle.std.proofs.Common.{◌≡◌, ◌≢◌, ℕ, ◌+◌, ◌-◌, ◌<◌, inl, inr, Bool, true, false, ◌||◌, cond, List, [], ◌∷◌, ◌++◌, length, map, take, drop, slice_index, slice_set, sym, ap, ◌∙◌, subst, arith}
 use Rattle.std.proofs.lemmas.Bool.{cases_Bool, cases_eq, ne_eqb}
 use Rattle.std.proofs.Math.Seq.{take-append_seam}
 use Rattle.std.proofs.lemmas.List.{map-append, take_more, take-append-drop, get_or-set_same, get_or-set_other, length-set}
@@ -21,11 +21,7 @@ pub record IsRaised (vertices before after : List ℕ) : Type 0 where
   pub each : length after ≡ length before
   pub counted : (v : ℕ) → slice_index after v ≡ slice_index before v + cond (is_member v vertices) 1 0
 
--- none yet
-pub raised-none : (before : List ℕ) → IsRaised [] before before
-raised-none before = record { each = refl; counted = λ v. omega arith }
-
--- and at one vertex more
+-- at one vertex more
 pub raised-more : (u : ℕ) (vertices before now : List ℕ) → is_member u vertices ≡ false → u < length before → IsRaised vertices before now → IsRaised (vertices ++ u ∷ []) before (slice_set now u (slice_index now u + 1))
 raised-more u vertices before now n l r = record {
   each = length-set now u (slice_index now u + 1) ∙ r.each;

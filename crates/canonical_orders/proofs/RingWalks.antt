@@ -60,9 +60,6 @@ pub record IsOnTheWay (n : ℕ) (f : ℕ → ℕ) (passes : ℕ → Bool) (y d :
   pub at : d ≡ iterate f (length l) y
   pub most : length l ≤ least n passes
 
-pub way-start : (n : ℕ) (f : ℕ → ℕ) (passes : ℕ → Bool) (y : ℕ) → IsOnTheWay n f passes y y []
-way-start n f passes y = record { items = refl; at = refl; most = omega arith }
-
 -- where dart d doesn't pass, more are to come
 pub way-short : (n : ℕ) (f : ℕ → ℕ) (passes : ℕ → Bool) (y d : ℕ) (l : List ℕ) → some n passes ≡ true → IsOnTheWay n f passes y d l → passes (length l) ≡ false → length l < least n passes
 way-short n f passes y d l s w h = elim (cases_lt (length l) (least n passes)) [

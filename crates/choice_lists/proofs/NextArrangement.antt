@@ -16,10 +16,6 @@ use Rattle.choice_lists.proofs.Arrangements.{rising-number, falling-number, numb
 abbrev pub Below : List ℕ → ℕ → Type 0
 Below l x = (i y : ℕ) → At l i y → y < x
 
--- x and y change places, and what is behind is turned round
-step : ℕ → List ℕ → ℕ → List ℕ → List ℕ
-step x upper y lower = y ∷ reverse (upper ++ x ∷ lower)
-
 -- facts of one step
 record Step (x : ℕ) (upper : List ℕ) (y : ℕ) (lower : List ℕ) : Type 0 where
   pub falls : Falls (upper ++ y ∷ lower)

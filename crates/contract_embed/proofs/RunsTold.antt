@@ -1,7 +1,6 @@
 -- The runs of the darts round the merged vertex, as they are found by looking at each dart and the one that follows it.
 use Rattle.std.proofs.Common.{◌≡◌, ◌≢◌, ℕ, ◌<◌, inl, inr, List, slice_index, sym, ap, ◌∙◌, subst}
 use Rattle.std.proofs.lemmas.Bool.{cases_eq}
-use Rattle.multigraph.specs.Graph.{Multigraph}
 use Rattle.contractions.specs.Contracted.{contracted_vertex}
 use Rattle.dart_maps.specs.Map.{IsMap}
 use Rattle.faces.specs.Euler.{dart_count}
@@ -20,9 +19,6 @@ use Rattle.contract_obstruct.proofs.Orders.{steps-in}
 use Rattle.contract_obstruct.proofs.OneSystem.{one-system}
 
 module _ (level : Level) (k : IsLevel level) (next : List ℕ) where
-  abbrev h : Multigraph
-  h = contraction level
-
   -- a vertex is not both ends
   apart : (v : ℕ) → v ≡ level.x → v ≡ level.y → ⊥
   apart v a b = ends-differ level.graph (contraction level) level.edge level.x level.y (edge_before level) (contracted_vertex level.x level.y) k.graph (level-contraction level k) (sym a ∙ b)

@@ -102,9 +102,6 @@ module _ (level : Level) (k : IsLevel level) where
       abbrev d : Sector
       d = sectors.far
 
-      all : List ℕ
-      all = listed a ++ (listed b ++ (listed c ++ listed d))
-
       abbrev Among : List ℕ → Type 0
       Among l = (z : ℕ) → is_member z l ≡ true → (z < edge_count h) × (is_end h w z ≡ true)
 

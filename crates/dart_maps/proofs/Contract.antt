@@ -51,10 +51,6 @@ follows-other c d f e = rw (eq-eqb (f c) c e) refl
 -- a map and an edge that joins two vertices
 module _ (m : ℕ) (f g : ℕ → ℕ) (b : IsMap m f g) (d : ℕ) (l : d < 2 * m) (v : same_vertex m f d (twin d) ≡ false) where
   -- the two vertices merged: the darts behind d's twin come behind those behind d
-  merged : ℕ → ℕ
-  merged = exchange (g d) (twin d) f
-
-  -- the merged map
   merged-map : IsMap m (exchange (g d) (twin d) f) (back_after (g d) (twin d) g)
   merged-map = step-map m f g b (g d) (twin d) (b.back d l) (twin-below m d l)
 
@@ -65,10 +61,6 @@ module _ (m : ℕ) (f g : ℕ → ℕ) (b : IsMap m f g) (d : ℕ) (l : d < 2 * 
   -- so it is not at the other
   apart : same_vertex m f (g d) (twin d) ≡ false
   apart = false_from_ne_true (same_vertex m f (g d) (twin d)) (λ t. let e = orbit-equivalence (2 * m) f in both_ways (same_vertex m f d (twin d)) v (e.transitive d (g d) (twin d) (e.symmetric (g d) d before) t))
-
-  -- the dart before d is not the twin
-  differ : g d ≡ twin d → ⊥
-  differ i = both_ways (same_vertex m f (g d) (twin d)) apart (subst (λ (z : ℕ). same_vertex m f (g d) z ≡ true) i ((orbit-equivalence (2 * m) f).reflexive (g d)))
 
   -- merging the two vertices keeps the defect
   merged-defect : SameDefect m f (exchange (g d) (twin d) f)

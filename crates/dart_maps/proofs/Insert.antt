@@ -20,10 +20,6 @@ use Rattle.dart_maps.proofs.Drop.{dead-edge-apart}
 -- a map, an edge both darts of which are alone, and two darts of other edges
 module _ (m : ℕ) (f g : ℕ → ℕ) (b : IsMap m f g) (d : ℕ) (l : d < 2 * m) (alone : f d ≡ d) (twin-alone : f (twin d) ≡ twin d) (p q : ℕ) (k : p < 2 * m) (i : q < 2 * m) (pd : p ≡ d → ⊥) (pt : p ≡ twin d → ⊥) (qd : q ≡ d → ⊥) (qt : q ≡ twin d → ⊥) where
   -- the edge's first dart put behind p
-  first : ℕ → ℕ
-  first = exchange p d f
-
-  -- its inverse
   pub first-map : IsMap m (exchange p d f) (back_after p d g)
   first-map = step-map m f g b p d k l
 

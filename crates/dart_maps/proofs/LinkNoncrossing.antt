@@ -62,10 +62,6 @@ module _ (m : ℕ) (f g : ℕ → ℕ) (e : IsMap m f g) (a b c : ℕ) (o : MetI
 -- a plane map, an edge that joins two vertices, and darts a, b at the one and x, y at the other, met in turn from the edge
 -- on; a is connected with x and b with y without passing the two vertices
 module _ (m : ℕ) (f g : ℕ → ℕ) (e : IsMap m f g) (p : IsPlane m f) (d : ℕ) (v : same_vertex m f d (twin d) ≡ false) (a b x y : ℕ) (o : MetInTurn m f d a b) (q : MetInTurn m f (twin d) x y) (one : connected_past m f d (twin d) a x ≡ true) (two : connected_past m f d (twin d) b y ≡ true) where
-  -- at one of the two vertices
-  abbrev at : ℕ → Bool
-  at z = same_vertex m f d z || same_vertex m f (twin d) z
-
   -- the darts that stay: the six, and all of other vertices
   abbrev keep : ℕ → Bool
   keep z = not (same_vertex m f d z || same_vertex m f (twin d) z) || (one_of_three d a b z || one_of_three (twin d) x y z)

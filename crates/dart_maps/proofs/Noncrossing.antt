@@ -34,10 +34,6 @@ restricted-more m f g b keep more u x y l v same k e = goes-restricted (2 * m) m
 
 -- a plane map and four darts of one vertex in this order, a connected with c and b with d without passing it
 module _ (m : ℕ) (f g : ℕ → ℕ) (e : IsMap m f g) (p : IsPlane m f) (a b c d : ℕ) (o : MetInOrder m f a b c d) (one : connected_around m f a a c ≡ true) (two : connected_around m f a b d ≡ true) where
-  -- at the vertex
-  abbrev at : ℕ → Bool
-  at x = same_vertex m f a x
-
   -- the darts that stay: the four, and all of other vertices
   abbrev keep : ℕ → Bool
   keep x = not (same_vertex m f a x) || one_of_four a b c d x

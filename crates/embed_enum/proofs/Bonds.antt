@@ -81,10 +81,6 @@ module _ (keys c : List ℕ) (b : IsBondOf keys c) where
   pub bond-behind : drop 1 c ≡ b.rest
   bond-behind = ap (drop 1) b.is
 
-  -- the first places agree
-  pub bond-first : take 1 c ≡ take 1 keys
-  bond-first = ap (take 1) b.is ∙ sym (ap (take 1) b.node)
-
   -- the number counts the keys behind the first alone
   pub bond-counts : factorial_number c ≡ factorial_number b.rest
   bond-counts = ap factorial_number b.is ∙ bond-number b.key b.others b.rest b.rise b.same

@@ -1,5 +1,5 @@
 -- Numbers on a list, each once: one more is put on it, and there are no more than marks.
-use Rattle.std.proofs.Common.{◌≡◌, ◌≢◌, ℕ, ◌<◌, ◌≤◌, inl, inr, Bool, true, false, List, [], ◌∷◌, ◌++◌, length, set, slice_index_or, refl, sym, ap, ◌∙◌, subst, arith, append-nil, append_assoc}
+use Rattle.std.proofs.Common.{◌≡◌, ◌≢◌, ℕ, ◌<◌, ◌≤◌, inl, inr, Bool, true, false, List, [], ◌∷◌, ◌++◌, length, set, slice_index_or, refl, sym, ap, ◌∙◌, subst, arith, append_assoc}
 use Rattle.std.proofs.lemmas.Bool.{cases_Bool, cases_eq, both_ways, true≢false}
 use Rattle.std.proofs.lemmas.List.{length-set, get_or-set_same, get_or-set_other, get_or_append_left}
 use Rattle.permutations.specs.Members.{is_member}
@@ -8,10 +8,6 @@ use Rattle.permutations.proofs.Members.{member-head, member-cases, member-append
 use Rattle.permutations.proofs.Arrangements.{count-list}
 use Rattle.permutations.proofs.Relation.{same-tests}
 use Rattle.graph_paths.specs.Listing.{note_of, AreListed, Grows}
-
--- no number more
-pub grows-none : (P : ℕ → ℕ → Type 0) (l n : List ℕ) → Grows P l n l n
-grows-none P l n = record { appended = []; is = sym (append-nil l); kept = λ x m. refl; noted = λ x m f. absurd (both_ways (is_member x l) f m) }
 
 -- what stood on the list stands there still
 pub grows-member : (P : ℕ → ℕ → Type 0) (l n k o : List ℕ) → Grows P l n k o → (x : ℕ) → is_member x l ≡ true → is_member x k ≡ true

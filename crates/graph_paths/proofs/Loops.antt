@@ -3,7 +3,7 @@ use Rattle.std.proofs.Common.{◌≡◌, ℕ, ◌+◌, ◌<◌, inl, inr, Bool, 
 use Rattle.std.proofs.lemmas.Bool.{cases_eq}
 use Rattle.permutations.specs.Members.{is_member}
 use Rattle.graph_paths.specs.Listing.{AreListed, Grows}
-use Rattle.graph_paths.proofs.Listed.{grows-none, grows-member, grows-next}
+use Rattle.graph_paths.proofs.Listed.{grows-member, grows-next}
 
 -- the first n of some steps were taken: what fits was put on the list, and what step i asks for is there
 pub record Listed (fits : ℕ → ℕ → Type 0) (asked : ℕ → ℕ → Type 0) (n size : ℕ) (start_notes start_list : List ℕ) (marks : List Bool) (notes list : List ℕ) : Type 0 where
@@ -11,10 +11,6 @@ pub record Listed (fits : ℕ → ℕ → Type 0) (asked : ℕ → ℕ → Type 
   pub size_is : length marks ≡ size
   pub grows : Grows fits start_list start_notes list notes
   pub met : (i h : ℕ) → i < n → asked i h → is_member h list ≡ true
-
--- no step yet
-pub steps-none : (fits asked : ℕ → ℕ → Type 0) (size : ℕ) (marks : List Bool) (notes list : List ℕ) → AreListed marks notes list → length marks ≡ size → Listed fits asked 0 size notes list marks notes list
-steps-none fits asked size marks notes list a q = record { listed = a; size_is = q; grows = grows-none fits list notes; met = λ i h l. absurd (omega (arith, l)) }
 
 -- a step that asks for x
 pub steps-more : (fits asked : ℕ → ℕ → Type 0) (n size : ℕ) (start_notes start_list : List ℕ) (marks : List Bool) (notes list : List ℕ) (next_marks : List Bool) (next_notes next_list : List ℕ) (x note : ℕ)

@@ -18,11 +18,7 @@ avoids-none : (links : List (ℕ × ℕ)) → filter (avoids []) links ≡ links
 avoids-none [] = refl
 avoids-none (link ∷ links) = ap (λ (l : List (ℕ × ℕ)). link ∷ l) (avoids-none links)
 
--- connected without the removal of any vertex is connected
-pub without_none-connected : (g : Multigraph) → IsConnectedWithout g [] → IsConnected g
-without_none-connected g c u v a b = subst (λ (links : List (ℕ × ℕ)). connected links u v ≡ true) (avoids-none g.ends) (c u v a b refl refl)
-
--- and the converse
+-- a connected graph is connected without the removal of any vertex
 pub connected-without_none : (g : Multigraph) → IsConnected g → IsConnectedWithout g []
 connected-without_none g c u v a b m n = subst (λ (links : List (ℕ × ℕ)). connected links u v ≡ true) (sym (avoids-none g.ends)) (c u v a b)
 

@@ -1,5 +1,5 @@
 -- Two segments meet at most in common ends exactly where the test of their ends says so.
-use Rattle.std.proofs.Common.{◌≡◌, ℕ, ◌⊎◌, inl, inr, ◌<◌, ◌+◌, ◌↔◌, Bool, true, false, not, arith, ap, ap₂, refl, sym, ◌∙◌, subst}
+use Rattle.std.proofs.Common.{◌≡◌, ℕ, ◌⊎◌, inl, inr, ◌<◌, ◌+◌, ◌↔◌, true, false, not, arith, ap, ap₂, refl, sym, ◌∙◌, subst}
 use Rattle.std.proofs.lemmas.Bool.{cases_eq, eq-eqb, ne_eqb, not-true, not_from_false, false≢true, true_from_ne_false, false_from_ne_true}
 use Rattle.plane_points.specs.Segments.{weighted, times, DoMeet, are_apart, same_way}
 use Rattle.plane_points.proofs.Segments.{meet-apart, near-meet}
@@ -51,10 +51,6 @@ clear-fork at z p q a n c s t u w k e m = go (c s t u w k e m)
     go (v, inl x, y, h) = subst (λ (i : ℕ). weighted s (at z) t (at p) ≡ times (s + t) (at i)) (sym x) h
     go (v, inr x, inl y, h) = subst (λ (i : ℕ). weighted s (at z) t (at p) ≡ times (s + t) (at i)) (sym y) h
     go (v, inr x, inr y, h) = absurd (n (x ∙ sym y))
-
--- the ends of an edge exchanged
-turned : ℕ × ℕ → ℕ × ℕ
-turned e = (e.1, e.0)
 
 turn-first : (at : ℕ → ℕ × ℕ) (a b : ℕ) (f : ℕ × ℕ) → Clear at (b, a) f → Clear at (a, b) f
 turn-first at a b f c s t u w n e m = let r = c t s u w (omega (arith, n)) (omega (arith, e)) (other-way t s (at b) (at a) ∙ m) in
@@ -121,9 +117,6 @@ no-end at a b c d n k i j = (
         go (v, inl x, inr y, h) = k (x ∙ sym y)
         go (v, inr x, inl y, h) = i (x ∙ sym y)
         go (v, inr x, inr y, h) = j (x ∙ sym y)
-
-abbrev clear : (ℕ → ℕ × ℕ) → ℕ → ℕ → ℕ → ℕ → Bool
-clear at a b c d = is_clear at (a, b) (c, d)
 
 iff-trans : (P Q R : Type 0) → (P ↔ Q) → (Q ↔ R) → P ↔ R
 iff-trans P Q R f g = ((λ p. g.0 (f.0 p)), (λ r. f.1 (g.1 r)))

@@ -1,7 +1,7 @@
 -- K5 and K3,3 read off: what the functions find is the pattern that the graph is.
-use Rattle.std.proofs.Common.{◌≡◌, ◌≢◌, ℕ, ◌+◌, ◌<◌, inl, inr, true, false, not, ◌==◌, List, [], ◌∷◌, ◌++◌, length, filter, refl, sym, ap, ◌∙◌, subst, arith, eq-eqb}
+use Rattle.std.proofs.Common.{◌≡◌, ◌≢◌, ℕ, ◌+◌, ◌<◌, inl, inr, true, false, not, ◌==◌, List, [], ◌∷◌, ◌++◌, length, filter, refl, sym, ap, ◌∙◌, subst, arith}
 use Rattle.std.proofs.lemmas.List.{get_or_push, get_or_append_left}
-use Rattle.std.proofs.lemmas.Bool.{cases_eq, ne_eqb, or_left, or_right, not_from_false}
+use Rattle.std.proofs.lemmas.Bool.{cases_eq, ne_eqb}
 use Rattle.permutations.proofs.Search.{some-from}
 use Rattle.multigraph.specs.Graph.{Multigraph, IsGraph, edge_count, numbers_below}
 use Rattle.kuratowski.specs.Subdivision.{branch_at, branch_count, pair_at, path_at, pattern_edges, IsWritten}
@@ -10,29 +10,12 @@ use Rattle.kuratowski.specs.declared.subdivision.Pattern.TheVariants.{K5, K33}
 use Rattle.minimal_graphs.specs.Whole.{joins, are_joined, is_far, first_side, IsPattern, IsEdgePath, AreEdges}
 use Rattle.minimal_graphs.proofs.Sides.{sides-branch, first-long, pair-joined, edges-written}
 
--- the vertex 0 is on its own side
-pub far-zero : (g : Multigraph) (v : ℕ) → v ≡ 0 → is_far g v ≡ true
-far-zero g v q = or_left (v == 0) (not (are_joined g 0 v)) (eq-eqb v 0 q)
-
--- so is each vertex that no edge joins with it
-pub far-none : (g : Multigraph) (v : ℕ) → are_joined g 0 v ≡ false → is_far g v ≡ true
-far-none g v n = or_right (v == 0) (not (are_joined g 0 v)) (not_from_false (are_joined g 0 v) n)
-
--- one that an edge joins with it is not
+-- a vertex that an edge joins with the vertex 0 is not on its side
 pub far-edge : (g : Multigraph) (v e : ℕ) → v ≢ 0 → e < edge_count g → joins g 0 v e ≡ true → is_far g v ≡ false
 far-edge g v e n l j =
     let z : (v == 0) ≡ false = ne_eqb v 0 n in
     let t : are_joined g 0 v ≡ true = some-from (edge_count g) (joins g 0 v) e l j in
     rw (z, t) refl
-
--- the pattern by the size of the first side
-pub side-five : (n : ℕ) → n ≡ 1 → (kind : Pattern) → n ≡ first_side kind → K5 ≡ kind
-side-five n q K5 h = refl
-side-five n q K33 h = absurd (omega (arith, q, h))
-
-pub side-six : (n : ℕ) → n ≢ 1 → (kind : Pattern) → n ≡ first_side kind → K33 ≡ kind
-side-six n q K5 h = absurd (q h)
-side-six n q K33 h = refl
 
 -- one path more
 pub edges-more : (g : Multigraph) (kind : Pattern) (branch : List ℕ) (paths : List (List ℕ)) (path : List ℕ) (n : ℕ) → length paths ≡ n

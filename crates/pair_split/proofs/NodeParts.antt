@@ -1,6 +1,6 @@
 -- The components of a list of nodes: their kinds and pieces are those of the nodes.
 use Rattle.std.proofs.Common.{◌≡◌, ℕ, zero, suc, ◌<◌, List, [], ◌∷◌, length, map, slice_index_or, refl, ap, ◌∙◌}
-use Rattle.std.proofs.lemmas.List.{get_or-map, length-map}
+use Rattle.std.proofs.lemmas.List.{get_or-map}
 use Rattle.pair_split.specs.Split.{items_of, item_at, component_at}
 use Rattle.pair_split.specs.Tutte.{Node, node_at, node_item, components, piece_of}
 use Rattle.pair_split.specs.declared.components.Piece.{Piece}

@@ -1,8 +1,7 @@
 -- What is said of a family depends on its entries alone, and not on their order.
 use Rattle.std.proofs.Common.{◌≡◌, ℕ, ◌≤◌, Bool, true, not, List, length, ap, Contains}
-use Rattle.permutations.proofs.Relation.{same-tests}
 use Rattle.permutations.specs.Members.{is_distinct}
-use Rattle.pair_split.specs.Family.{Entry, names, on_side, is_common, IsTight, IsSeparation, IsPrime}
+use Rattle.pair_split.specs.Family.{Entry, names, on_side, is_common, IsTight, IsSeparation}
 use Rattle.pair_split.proofs.Elements.{two-pass}
 use Rattle.pair_split.proofs.Sides.{Touching, one-from_entry, entry-from_one, common-from, common-inside, common-outside}
 use Rattle.pair_split.proofs.Names.{two-names}

@@ -1,5 +1,5 @@
 -- The two sides of a division of a family: entries of them, the vertices that they touch, and those that they have in common.
-use Rattle.std.proofs.Common.{◌≡◌, ◌≢◌, ℕ, ◌+◌, ◌≤◌, ◌⊎◌, inl, inr, Bool, true, not, ◌&&◌, List, [], ◌∷◌, length, sym, ap, ◌∙◌, subst, arith, Contains}
+use Rattle.std.proofs.Common.{◌≡◌, ◌≢◌, ℕ, ◌+◌, ◌≤◌, ◌⊎◌, inl, inr, Bool, true, not, ◌&&◌, List, [], ◌∷◌, length, sym, ◌∙◌, subst, arith, Contains}
 use Rattle.std.proofs.lemmas.Bool.{cases_Bool, true≢false, or_cases, and_parts, and_from, or_left, or_right}
 use Rattle.pair_split.specs.Family.{Entry, has_end, on_side, off_side, touches, is_common, IsTight, IsSeparation}
 use Rattle.pair_split.proofs.Elements.{contains-here, contains-later, contains-cases, contains-none, contains-filter, filter-contains, some-element, element-some, length-parts, filter-same}

@@ -1,7 +1,7 @@
 -- The skeleton of a component as a family, each item under its place; its common vertices are those of the graph, so that it
 -- is tight where the graph is.
 use Rattle.std.proofs.Common.{◌≡◌, ◌≢◌, ℕ, zero, suc, ◌+◌, ◌<◌, ◌≤◌, ◌==◌, inl, inr, Bool, true, not, List, [], ◌∷◌, length, map, slice_index_or, refl, sym, ap, ◌∙◌, subst, arith, Contains, All}
-use Rattle.std.proofs.lemmas.Bool.{both_ways, not-true, not_from_false, true≢false, or_left, eq-eqb, false_from_ne_true}
+use Rattle.std.proofs.lemmas.Bool.{both_ways, not_from_false, true≢false, or_left, eq-eqb, false_from_ne_true}
 use Rattle.std.proofs.lemmas.List.Elements.{All-nil, All-cons, All-tail, All-contains}
 use Rattle.permutations.specs.Count.{least}
 use Rattle.permutations.specs.Members.{is_member, is_distinct}
@@ -16,7 +16,7 @@ use Rattle.pair_split.specs.Tutte.{has_in_group}
 use Rattle.pair_split.specs.declared.components.Piece.{Piece}
 use Rattle.pair_split.specs.declared.components.Comp.{Comp}
 use Rattle.pair_split.proofs.Elements.{contains-here, contains-later, contains-cases, contains-none}
-use Rattle.pair_split.proofs.Sides.{entry-from_one, one-from_entry, common-from, common-inside, common-outside}
+use Rattle.pair_split.proofs.Sides.{entry-from_one, one-from_entry, common-from}
 use Rattle.pair_split.proofs.GraphFamily.{graph-contains}
 use Rattle.pair_split.proofs.GraphSides.{family-common}
 use Rattle.pair_split.proofs.Links.{no_piece}
@@ -112,25 +112,7 @@ module _ (g : Multigraph) (comps : List Comp) (s : IsSplit g comps) (k : ℕ) (l
       let t : Touched g comps s k i.0 v = end-touched g comps s k i.0 v i.1 (subst (λ (z : Entry). has_end v z ≡ true) i.2 h) in
       (t.edge, t.edge_in, t.end, index-is t.edge i.0 t.edge_in i.1 t.in_group ∙ sym (ap (λ (z : Entry). z.name) i.2))
 
-  -- a vertex that a side of the skeleton and the rest have in common, the edges in their groups have in common
-  pub common-lift : (t : ℕ → Bool) (v : ℕ) → is_common (skeleton_family comps k) t v ≡ true → IsCommon g (λ e. t (group_index e)) v
-  common-lift t v h =
-      let i = common-inside (skeleton_family comps k) t v h in
-      let o = common-outside (skeleton_family comps k) t v h in
-      let e = touched i.entry v i.within i.end in
-      let f = touched o.entry v o.within o.end in
-      record {
-        inside = e.0;
-        outside = f.0;
-        inside_edge = e.1;
-        outside_edge = f.1;
-        inside_end = e.2;
-        outside_end = f.2;
-        inside_side = ap t e.3 ∙ i.side;
-        outside_side = ap t f.3 ∙ not-true (t o.entry.name) o.side;
-      }
-
-  -- and the other way round
+  -- a vertex that a side of the edges and the rest have in common, this side of the skeleton and its rest have in common
   pub lift-common : (t : ℕ → Bool) (v : ℕ) → IsCommon g (λ e. t (group_index e)) v → is_common (skeleton_family comps k) t v ≡ true
   lift-common t v c =
       let i = index-in c.inside c.inside_edge in

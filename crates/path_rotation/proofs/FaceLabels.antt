@@ -68,14 +68,6 @@ pub record LabelOrbits (n : ℕ) (f : ℕ → ℕ) (unwritten d : ℕ) (label : 
   pub right : (x : ℕ) → x < n → slice_index label x ≢ unwritten → (slice_index label x < n) × (same_orbit n f (slice_index label x) x ≡ true)
   pub done : (x : ℕ) → x < d → slice_index label x ≢ unwritten
 
--- nothing is written at first
-pub label-none : (n : ℕ) (f : ℕ → ℕ) (unwritten : ℕ) (label : List ℕ) → ((x : ℕ) → x < n → f x < n) → ((x : ℕ) → x < n → slice_index label x ≡ unwritten) → LabelOrbits n f unwritten 0 label
-label-none n f unwritten label stays e = record {
-  whole = λ x l. e (f x) (stays x l) ∙ sym (e x l);
-  right = λ x l h. absurd (h (e x l));
-  done = λ x l. absurd (omega arith);
-}
-
 -- a number that has a label is skipped
 pub label-skip : (n : ℕ) (f : ℕ → ℕ) (unwritten d : ℕ) (label : List ℕ) → LabelOrbits n f unwritten d label → slice_index label d ≢ unwritten → LabelOrbits n f unwritten (d + 1) label
 label-skip n f unwritten d label h w = record {

@@ -22,32 +22,12 @@ use Rattle.faces.proofs.DartLemmas.{order-distinct, member-incident}
 use Rattle.faces.proofs.MapSteps.{after-dart_from}
 use Rattle.path_rotation.specs.Finish.{ArePassed, AreListed}
 
--- nothing is passed at first
-pub passed-none : (next : List ℕ) (first : ℕ) (edges : List ℕ) → edges ≡ [] → ArePassed next first 0 edges
-passed-none next first edges e = record { long = ap (λ (l : List ℕ). length l) e; each = λ i l. absurd (omega arith) }
-
--- one dart more
-pub passed-more : (next : List ℕ) (first count at : ℕ) (edges : List ℕ) → ArePassed next first count edges → iterate (slice_index next) count first ≡ at → ArePassed next first (count + 1) (edges ++ at / 2 ∷ [])
-passed-more next first count at edges p e = record {
-  long = length-append edges (at / 2 ∷ []) ∙ ap (λ (k : ℕ). k + 1) p.long;
-  each = λ i l. elim (cases_lt i count) [
-    | inl b ↦ get_or_append_left edges (at / 2 ∷ []) 0 i (omega (arith, b, p.long)) ∙ p.each i b
-    | inr b ↦
-        let s : i ≡ count = omega arith in
-        subst (λ (k : ℕ). slice_index (edges ++ at / 2 ∷ []) k ≡ iterate (slice_index next) k first / 2) (sym s) (get_or_push edges (at / 2) 0 count p.long ∙ ap (λ (d : ℕ). d / 2) (sym e))
-  ];
-}
-
 -- where nothing is to be passed, the first dart is any
 pub passed-any : (next : List ℕ) (first other count : ℕ) (edges : List ℕ) → (0 < count → first ≡ other) → ArePassed next first count edges → ArePassed next other count edges
 passed-any next first other count edges e p = record {
   long = p.long;
   each = λ i l. p.each i l ∙ ap (λ (d : ℕ). iterate (slice_index next) i d / 2) (e (omega (arith, l)));
 }
-
--- no lists at first
-pub listed-none : (g : Multigraph) (next : List ℕ) (lists : List (ℕ × List ℕ)) → lists ≡ [] → AreListed g next 0 lists
-listed-none g next lists e = record { long = ap (λ (l : List (ℕ × List ℕ)). length l) e; vertex = λ v l. absurd (omega arith); edges = λ v l. absurd (omega arith) }
 
 -- one list more
 pub listed-more : (g : Multigraph) (next : List ℕ) (n : ℕ) (lists : List (ℕ × List ℕ)) (edges : List ℕ) → AreListed g next n lists

@@ -6,7 +6,6 @@ use Rattle.std.proofs.Math.Path.{fun_ext}
 use Rattle.permutations.specs.Members.{is_member}
 use Rattle.permutations.specs.Relation.{connected}
 use Rattle.permutations.proofs.Members.{member-head, member-cases, member-append_left, member-append_right, member-append_cases}
-use Rattle.permutations.proofs.Relation.{connected-reflexive}
 use Rattle.multigraph.specs.Graph.{Multigraph, edge_count, ends_of, other_end, numbers_below, IsGraph}
 use Rattle.multigraph.specs.Marks.{is_marked}
 use Rattle.multigraph.proofs.Below.{filter_below-yes, filter_below-no}
@@ -37,14 +36,6 @@ off-more g on e h = sym (ap (λ (l : List ℕ). map (ends_of g) l) (filter_below
 -- or none
 pub off-skip : (g : Multigraph) (on : List Bool) (e : ℕ) → is_off_edge g on e ≡ false → off_links g on e ≡ off_links g on (e + 1)
 off-skip g on e h = sym (ap (λ (l : List ℕ). map (ends_of g) l) (filter_below-no (is_off_edge g on) e h))
-
--- each number as its own label
-pub own-labelling : (label : ℕ → ℕ) → ((x : ℕ) → label x ≡ x) → IsLabelling [] [] label
-own-labelling label h = record {
-  agree = λ link c _. absurd (omega (arith, c.1));
-  only = λ u v e. subst (λ (y : ℕ). connected [] u y ≡ true) (sym (h u) ∙ e ∙ h v) (connected-reflexive [] u);
-  own = λ x. ap label (h x);
-}
 
 -- nothing is removed
 all-avoid : (l : List (ℕ × ℕ)) → filter (avoids []) l ≡ l
@@ -128,9 +119,6 @@ module _ (g : Multigraph) (ok : IsGraph g) (drawn on : List Bool) (next : List �
             )
       ],
     )
-
-  pub found-none : (attached : List ℕ) → attached ≡ [] → AreFoundBelow g drawn t 0 attached
-  found-none attached e = record { each = λ z m. absurd (false≢true (subst (λ (x : List ℕ). is_member z x ≡ true) e m)); all = λ z i. absurd (omega arith) }
 
   -- one more is attached
   pub found-yes : (k : ℕ) (attached : List ℕ) → AreFoundBelow g drawn t k attached → IsAttached g D t k → AreFoundBelow g drawn t (k + 1) (attached ++ k ∷ [])

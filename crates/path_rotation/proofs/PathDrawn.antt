@@ -13,7 +13,6 @@ use Rattle.permutations.proofs.Orbits.{orbit-least}
 use Rattle.permutations.proofs.Restriction.{restricted-orbit}
 use Rattle.multigraph.specs.Graph.{Multigraph, IsGraph, edge_count, is_end, other_end}
 use Rattle.multigraph.specs.Marks.{is_marked}
-use Rattle.rotations.specs.Rotation.{IsRotationSystem}
 use Rattle.graph_theory.specs.Path.{walk_vertices}
 use Rattle.graph_theory.proofs.Walks.{walk-edge}
 use Rattle.dart_maps.specs.Map as maps
@@ -64,18 +63,9 @@ drawn-on g drawn on next t c h = t.on_drawn (tail g c)
 
 -- a rotation system that follows the map, and a foot
 module _ (g : Multigraph) (ok : IsGraph g) (drawn on : List Bool) (next : List ℕ) (t : AreTables g drawn on next) (d : ℕ) (l : d < dart_count g) (off : is_drawn drawn d ≡ false) (start : is_marked on (tail g d) ≡ true) (q : List (List ℕ)) (f : Follows g drawn next q) where
-  abbrev after : ℕ → ℕ
-  after = dart_after g q
-
-  abbrev before : ℕ → ℕ
-  before = dart_before g q
-
   -- the map of the drawn darts
   abbrev left : ℕ → ℕ
   left = restricted (dart_count g) (is_drawn drawn) (dart_after g q)
-
-  system : IsRotationSystem g q
-  system = f.plane.system
 
   permutes : IsMap (edge_count g) (dart_after g q) (dart_before g q)
   permutes = map-permutes g q ok f.plane.system

@@ -10,11 +10,6 @@ abbrev pub AllDarts : (ℕ → Type 0) → List ℕ → Type 0
 AllDarts P [] = Unit {0}
 AllDarts P (d ∷ path) = P d × P (twin d) × AllDarts P path
 
--- more is in what they are in
-pub darts-more : (P Q : ℕ → Type 0) → ((x : ℕ) → P x → Q x) → (path : List ℕ) → AllDarts P path → AllDarts Q path
-darts-more P Q h [] a = tt
-darts-more P Q h (d ∷ path) a = (h d a.0, h (twin d) a.1, darts-more P Q h path a.2)
-
 -- an exchange of two numbers in P takes P where the function took it
 exchange-takes : (P : ℕ → Type 0) (R : ℕ → ℕ → Type 0) (f : ℕ → ℕ) (p q : ℕ) → ((x : ℕ) → P x → R x (f x)) → R p (f q) → R q (f p) → (x : ℕ) → P x → R x (exchange p q f x)
 exchange-takes P R f p q h a b x k = elim (exchange-cases p q f x) [

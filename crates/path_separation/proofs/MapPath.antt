@@ -131,11 +131,6 @@ IsNewPath g live d [] = (d < dart_count g) × (live d ≡ false) × (live (twin 
 IsNewPath g live d (c ∷ path) = ((d < dart_count g) × (live d ≡ false) × (live (twin d) ≡ false))
     × (tail g c ≡ tail g (twin d)) × ((x : ℕ) → x < dart_count g → tail g x ≡ tail g (twin d) → live x ≡ false) × IsNewPath g (and_edge live d) c path
 
--- its first dart
-new-first : (g : Multigraph) (live : ℕ → Bool) (d : ℕ) (path : List ℕ) → IsNewPath g live d path → (d < dart_count g) × (live d ≡ false) × (live (twin d) ≡ false)
-new-first g live d [] w = w
-new-first g live d (c ∷ path) w = w.0
-
 -- the path inserted
 pub path-map : (g : Multigraph) → IsGraph g → (path : List ℕ) (live : ℕ → Bool) (next previous : ℕ → ℕ) → IsMapOn g live next previous → (p d q : ℕ) → p < dart_count g → live p ≡ true → tail g d ≡ tail g p → IsNewPath g live d path
     → q < dart_count g → live q ≡ true → tail g (twin (path_last d path)) ≡ tail g q → (back : ℕ → ℕ) × IsMapOn g (and_edges live (d ∷ path)) (path_inserted p d path q next) back

@@ -1,5 +1,5 @@
 -- The ring of a number under a permutation: its orbit as a list without repetition, whose successor is the permutation.
-use Rattle.std.proofs.Common.{◌≡◌, ◌≢◌, ℕ, zero, suc, ◌+◌, ◌-◌, ◌<◌, ◌≤◌, inl, inr, Bool, true, ◌==◌, List, ◌∷◌, ◌++◌, length, refl, sym, ap, ◌∙◌, subst, arith, add-one}
+use Rattle.std.proofs.Common.{◌≡◌, ◌≢◌, ℕ, zero, suc, ◌+◌, ◌-◌, ◌<◌, ◌≤◌, inl, inr, true, ◌==◌, List, ◌∷◌, ◌++◌, length, refl, sym, ap, ◌∙◌, subst, arith, add-one}
 use Rattle.std.proofs.lemmas.Bool.{cases_Bool, both_ways, true≢false, false_from_ne_true, eqb-true, eqb-false, eq-eqb}
 use Rattle.permutations.specs.Count.{some, least}
 use Rattle.permutations.specs.Members.{is_member, is_distinct}
@@ -71,10 +71,6 @@ images-successor f x i r h c = ap (λ (z : List ℕ). successor z y) cut ∙ suc
     next zero (suc i) c = sym (c refl) ∙ iterate-more f (suc i) x
 
 module _ (n : ℕ) (f g : ℕ → ℕ) (b : Permutes n f g) (x : ℕ) (l : x < n) where
-  -- the test whose first success is the return
-  back : ℕ → Bool
-  back k = iterate f (k + 1) x == x
-
   -- some number of steps below n leads back
   back-some : some n (λ k. iterate f (k + 1) x == x) ≡ true
   back-some = let w : (k : ℕ) × (0 < k) × (k ≤ n) × (iterate f k x ≡ x) = period n f g b x l in

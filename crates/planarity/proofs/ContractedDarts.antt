@@ -86,10 +86,6 @@ contracted-not_kept g e x y f h q = both_ways (f == e) (not-true (f == e) (and_p
 
 -- a graph and the graph with an edge contracted
 module _ (g h : Multigraph) (e x y : ℕ) (edge vertex : ℕ → ℕ) (ok : IsGraph g) (con : IsContraction g h e x y edge vertex) where
-  -- the dart of the contracted edge from x
-  abbrev pub middle : ℕ
-  middle = dart_from g x e
-
   pub middle-below : dart_from g x e < dart_count g
   middle-below = dart_from-below g x e con.edge_in
 

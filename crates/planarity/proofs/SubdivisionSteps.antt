@@ -85,9 +85,6 @@ module _ (g : Multigraph) (ok : IsGraph g) (r : List (List ℕ)) (rs : IsRotatio
     abbrev at : ℕ
     at = walk_end g (way_from kind branch q) front
 
-    abbrev to : ℕ
-    to = other_end g e (walk_end g (way_from kind branch q) front)
-
     pub cut-path : IsPath g (way_from kind branch q) (front ++ e ∷ after) (way_from kind branch (twin q))
     cut-path = subst (λ k. IsPath g (way_from kind branch q) k (way_from kind branch (twin q))) cut (way-path g ok kind branch paths s q l)
 

@@ -2,7 +2,6 @@
 use Rattle.std.proofs.Common.{◌≡◌, ℕ, zero, suc, ◌+◌, ◌<◌, ◌≤◌, Bool, true, List, length, get_or, refl, ap, ◌∙◌, arith}
 use Rattle.permutations.specs.Permutation.{iterate}
 use Rattle.multigraph.specs.Graph.{Multigraph}
-use Rattle.graph_theory.specs.SearchTree.{IsBelow}
 use Rattle.multigraph.specs.Marks.{is_marked}
 use Rattle.search_forest.specs.Forest.{IsOnPath, IsGrown}
 
@@ -20,14 +19,6 @@ iterate-kept g visited parent depth parent_edge seen lower t parent' same zero v
 iterate-kept g visited parent depth parent_edge seen lower t parent' same (suc i) v h l =
     ap (λ (k : ℕ). get_or parent' k 0) (iterate-kept g visited parent depth parent_edge seen lower t parent' same i v h (omega arith)) ∙
     same (iterate (λ k. get_or parent k 0) i v) (chain g visited parent depth parent_edge seen lower t i v h (omega arith)).0
-
--- where parents and depths of the visited vertices stay, a visited descendant stays one
-pub below-kept : (g : Multigraph) (visited : List Bool) (parent depth parent_edge : List ℕ) (seen : List Bool) (lower : List ℕ) → IsGrown g visited parent depth parent_edge seen lower → (parent' depth' : List ℕ) → ((u : ℕ) → is_marked visited u ≡ true → get_or parent' u 0 ≡ get_or parent u 0) → ((u : ℕ) → is_marked visited u ≡ true → get_or depth' u 0 ≡ get_or depth u 0) → (v z : ℕ) → is_marked visited z ≡ true → IsBelow (λ k. get_or parent k 0) (λ k. get_or depth k 0) v z → IsBelow (λ k. get_or parent' k 0) (λ k. get_or depth' k 0) v z
-below-kept g visited parent depth parent_edge seen lower t parent' depth' same deep v z h b = record {
-  steps = b.steps;
-  within = omega (arith, b.within, deep z h);
-  leads = iterate-kept g visited parent depth parent_edge seen lower t parent' same b.steps z h b.within ∙ b.leads;
-}
 
 -- the vertex i steps up from place j + i of the path stands at place j
 pub path-up : (g : Multigraph) (visited : List Bool) (parent depth path : List ℕ) → IsOnPath g visited parent depth path → (i j : ℕ) → j + i < length path → iterate (λ k. get_or parent k 0) i (get_or path (j + i) 0) ≡ get_or path j 0

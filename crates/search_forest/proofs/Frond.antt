@@ -4,7 +4,7 @@ use Rattle.permutations.specs.Permutation.{iterate}
 use Rattle.multigraph.specs.Graph.{Multigraph, edge_count, is_end, other_end, incident_edges}
 use Rattle.search_forest.specs.Forest.{ForestState, frond_noted, IsForest}
 use Rattle.multigraph.specs.Marks.{is_marked}
-use Rattle.search_forest.specs.Forest.{IsGrown, IsSeen, OnPath}
+use Rattle.search_forest.specs.Forest.{IsGrown, IsSeen}
 use Rattle.search_forest.proofs.Writes.{number-same, number-other, marked-cases, marked-kept, marks-differ}
 use Rattle.search_forest.proofs.Ancestors.{path-up}
 
@@ -58,9 +58,6 @@ module _ (g : Multigraph) (s : ForestState) (v e j i : ℕ) (k : IsForest g s) (
   -- the edge leads to a proper ancestor
   upper-here : iterate (λ q. get_or s.parent q 0) (i + 1) v ≡ other_end g e v
   upper-here = ap (iterate (λ q. get_or s.parent q 0) (i + 1)) (sym f.here) ∙ (path-up g s.visited s.parent s.depth s.path k.on_path (i + 1) j f.within ∙ f.there)
-
-  on-here : OnPath s.path v
-  on-here = record { place = j + (i + 1); within = f.within; is = f.here }
 
   grown : IsGrown g s.visited s.parent s.depth s.parent_edge seen' lower'
   grown = record {

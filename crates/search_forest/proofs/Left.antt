@@ -17,12 +17,6 @@ module _ (g : Multigraph) (s : ForestState) (v k : ℕ) (b : IsForest g s) (f : 
   path' : List ℕ
   path' = take (length s.path - 1) s.path
 
-  visited-here : is_marked s.visited v ≡ true
-  visited-here = subst (λ (z : ℕ). is_marked s.visited z ≡ true) f.here (b.on_path.visits k (omega (arith, f.last)))
-
-  depth-here : get_or s.depth v 0 ≡ k
-  depth-here = ap (λ (z : ℕ). get_or s.depth z 0) (sym f.here) ∙ b.on_path.deep k (omega (arith, f.last))
-
   path-length : length path' ≡ k
   unfolding path'
   path-length =

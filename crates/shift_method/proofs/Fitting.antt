@@ -2,7 +2,6 @@
 use Rattle.std.proofs.Common.{◌≡◌, ℕ, suc, ◌+◌, ◌*◌, ◌-◌, ◌/◌, ◌<◌, ◌≤◌, ◌^◌, true, List, [], ◌∷◌, ◌++◌, length, drop, slice_index, arith, sym, ap, ap₂, ◌∙◌, subst}
 use Rattle.std.proofs.Math.ListN.{length-set}
 use Rattle.std.proofs.Math.Seq.{drop-cons}
-use Rattle.std.proofs.lemmas.List.{length-append}
 use Rattle.permutations.specs.Members.{is_member, is_distinct}
 use Rattle.permutations.proofs.Members.{member-head, member-tail, member-append_right}
 use Rattle.canonical_orders.specs.Order.{Removed}
@@ -33,9 +32,6 @@ module _ (n : ℕ) (s : ShapeState) (w : ℕ) (heads : List ℕ) (z : IsShapeOf 
   head-below : (v : ℕ) → is_member v (c.left ∷ (c.inner ++ c.right ∷ [])) ≡ true → v < n
   head-below v i = c.within v (member-tail v w heads (subst (λ (l : List ℕ). is_member v l ≡ true) (sym c.stretch) i))
 
-  pub vertex-below : w < n
-  vertex-below = c.within w (member-head w heads)
-
   pub first-below : slice_index heads 0 < n
   first-below = subst (λ (v : ℕ). v < n) (sym first-is) (head-below c.left (member-head c.left (c.inner ++ c.right ∷ [])))
 
@@ -45,10 +41,6 @@ module _ (n : ℕ) (s : ShapeState) (w : ℕ) (heads : List ℕ) (z : IsShapeOf 
 
   pub end-below : last_of (drop 1 heads) < n
   end-below = subst (λ (v : ℕ). v < n) (sym end-is) (head-below c.right (member-tail c.right c.left (c.inner ++ c.right ∷ []) (member-append_right c.right c.inner (c.right ∷ []) (member-head c.right []))))
-
-  pub some-rest : 0 < length (drop 1 heads)
-  unfolding rest
-  some-rest = omega (arith, ap (λ (l : List ℕ). length l) rest-is, length-append {A = ℕ} c.inner (c.right ∷ []))
 
   pub gaps-small : (v : ℕ) → is_member v (drop 1 heads) ≡ true → slice_index s.gap v + 2 < 2 ^ 32
   unfolding rest
@@ -73,9 +65,6 @@ module _ (n : ℕ) (s : ShapeState) (w : ℕ) (heads : List ℕ) (z : IsShapeOf 
 
   pub half-less : half_of s heads ≤ width_of s heads
   half-less = omega (arith, c.slow, half-value, width-value)
-
-  pub top-small : slice_index s.height (slice_index heads 0) + half_of s heads < 2 ^ 32
-  top-small = omega (arith, small, c.fits, c.even, half-value, ap (slice_index s.height) first-is)
 
 -- the width, as it was computed
 pub width-told : (s t : ShapeState) (heads l : List ℕ) (width : ℕ) → l ≡ drop 1 heads → t ≡ with_widened s l → width ≡ total (slice_index t.gap) l → width ≡ width_of s heads

@@ -1,7 +1,6 @@
 -- Lists in which numbers are written: what each turn of a loop keeps.
-use Rattle.std.proofs.Common.{◌≡◌, ◌≢◌, ◌⊎◌, inl, inr, ℕ, zero, suc, ◌+◌, ◌-◌, ◌<◌, ◌≤◌, true, false, List, [], ◌∷◌, ◌++◌, length, take, drop, get_or, slice_index, slice_set, arith, refl, sym, ap, ◌∙◌, subst}
+use Rattle.std.proofs.Common.{◌≡◌, ◌≢◌, ◌⊎◌, inl, inr, ℕ, zero, suc, ◌+◌, ◌-◌, ◌<◌, ◌≤◌, true, false, List, [], ◌∷◌, ◌++◌, length, take, drop, slice_index, slice_set, arith, refl, sym, ap, ◌∙◌, subst}
 use Rattle.std.proofs.Math.ListN.{length-set}
-use Rattle.std.proofs.Math.Seq.{drop-cons, drop-length}
 use Rattle.std.proofs.lemmas.Bool.{both_ways, cases_eq, cases_Bool, false_from_ne_true, false≢true}
 use Rattle.std.proofs.lemmas.List.{get_or-set_same, get_or-set_other, take_more, take_all}
 use Rattle.permutations.specs.Members.{is_member}
@@ -35,35 +34,11 @@ pub record IsCovering (g : ℕ → ℕ) (vertices first : List ℕ) (i sum : ℕ
   pub rest : covered g sum (drop i vertices) offset ≡ covered g 0 vertices first
   pub size : length offset ≡ length first
 
-pub covering-start : (g : ℕ → ℕ) (vertices first : List ℕ) → IsCovering g vertices first 0 0 first
-covering-start g vertices first = record { sums = omega arith; rest = refl; size = refl }
-
-pub covering-fits : (g : ℕ → ℕ) (vertices first : List ℕ) (i sum : ℕ) (offset : List ℕ) → i < length vertices → IsCovering g vertices first i sum offset → sum + g (slice_index vertices i) ≤ total g vertices
-covering-fits g vertices first i sum offset l c = omega (arith, c.sums, ap (total g) (drop-cons vertices i 0 l))
-
-pub covering-step : (g : ℕ → ℕ) (vertices first : List ℕ) (i sum : ℕ) (offset : List ℕ) → i < length vertices → IsCovering g vertices first i sum offset
-    → IsCovering g vertices first (i + 1) (sum + g (slice_index vertices i)) (slice_set offset (slice_index vertices i) (sum + g (slice_index vertices i)))
-covering-step g vertices first i sum offset l c = record {
-  sums = omega (arith, c.sums, ap (total g) (drop-cons vertices i 0 l), ap (λ (k : ℕ). total g (drop k vertices)) one);
-  rest = ap (λ (k : ℕ). covered g (sum + g (slice_index vertices i)) (drop k vertices) (slice_set offset (slice_index vertices i) (sum + g (slice_index vertices i)))) one
-      ∙ ap (λ (r : List ℕ). covered g sum r offset) (sym (drop-cons vertices i 0 l)) ∙ c.rest;
-  size = length-set offset (slice_index vertices i) (sum + g (slice_index vertices i)) ∙ c.size;
-}
-  where
-    one : i + 1 ≡ suc i
-    one = omega arith
-
-pub covering-end : (g : ℕ → ℕ) (vertices first : List ℕ) (sum : ℕ) (offset : List ℕ) → IsCovering g vertices first (length vertices) sum offset → (sum ≡ total g vertices) × (offset ≡ covered g 0 vertices first)
-covering-end g vertices first sum offset c = (omega (arith, c.sums, ap (total g) (drop-length vertices)), sym (ap (λ (r : List ℕ). covered g sum r offset) (drop-length vertices)) ∙ c.rest)
-
 -- the first i of the members have the number `base` and their offset
 pub record AreWritten (members first offset : List ℕ) (base i : ℕ) (x : List ℕ) : Type 0 where
   pub size : length x ≡ length first
   pub done : (v : ℕ) → is_member v (take i members) ≡ true → slice_index x v ≡ base + slice_index offset v
   pub same : (v : ℕ) → is_member v (take i members) ≡ false → slice_index x v ≡ slice_index first v
-
-pub written-start : (members first offset : List ℕ) (base : ℕ) → AreWritten members first offset base 0 first
-written-start members first offset base = record { size = refl; done = λ v i. absurd (false≢true i); same = λ v i. refl }
 
 pub written-step : (members first offset : List ℕ) (base i : ℕ) (x : List ℕ) → i < length members → slice_index members i < length x → AreWritten members first offset base i x
     → AreWritten members first offset base (i + 1) (slice_set x (slice_index members i) (base + slice_index offset (slice_index members i)))
@@ -140,12 +115,6 @@ written-others h heads first offset base i x e b w v n = w.same v (false_from_ne
 pub tail-is : (l : List ℕ) → take (length l - 1) (drop 1 l) ≡ drop 1 l
 tail-is [] = refl
 tail-is (a ∷ l) = take_all (length (a ∷ l) - 1) l (omega arith)
-
--- an element in range, whatever the default
-pub same-default : {X : Type 0} (l : List X) (i : ℕ) (d e : X) → i < length l → get_or l i d ≡ get_or l i e
-same-default [] i d e h = absurd (omega (arith, h))
-same-default (y ∷ l) zero d e h = refl
-same-default (y ∷ l) (suc i) d e h = same-default l i d e (omega (arith, h))
 
 -- each gap is within the sum
 pub total-member : (g : ℕ → ℕ) (l : List ℕ) (v : ℕ) → is_member v l ≡ true → g v ≤ total g l

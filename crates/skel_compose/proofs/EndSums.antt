@@ -62,9 +62,6 @@ module _ (g : Multigraph) (nodes : List Node) (b : IsBlockTree g nodes) (limits 
   abbrev second_end : ℕ
   second_end = (nth_item items count).b
 
-  abbrev added : List ℕ
-  added = slice_set sums (nth_item items count).a (slice_index_or sums (nth_item items count).a 0 + count)
-
   few : count ≤ 50000
   few = let n = items-few g nodes b k l limits in omega (arith, m, n)
 

@@ -1,12 +1,12 @@
 -- Items found by binary search, and the homes of edges.
-use Rattle.std.proofs.Common.{◌≡◌, ℕ, ◌+◌, ◌<◌, ◌≤◌, inl, inr, true, Result, Ok, Err, IfOk, IfErr, List, [], length, get_or, slice_set, map, sym, ap, ap₂, ◌∙◌, subst, arith}
+use Rattle.std.proofs.Common.{◌≡◌, ℕ, ◌+◌, ◌<◌, ◌≤◌, inl, inr, true, Result, Ok, Err, IfOk, IfErr, List, [], length, slice_set, map, sym, ap, ◌∙◌, subst, arith}
 use Rattle.std.specs.List.Sorted.{IsSearchInRange, IsBinarySearchResult, IsNonDecreasingBy}
 use Rattle.std.specs.Ordering.{nat_cmp, ordering_index}
 use Rattle.std.proofs.lemmas.Cmp.{ranked}
 use Rattle.std.proofs.lemmas.List.Sorted.{IsNonDecreasingBy-from_default}
 use Rattle.std.proofs.lemmas.Bool.Decides.{nat_tests}
 use Rattle.std.proofs.lemmas.Bool.{cases_eq, cases_lt}
-use Rattle.std.proofs.lemmas.List.{get_or_default, get_or-set_same, get_or-set_other, length-set}
+use Rattle.std.proofs.lemmas.List.{get_or-set_same, get_or-set_other, length-set}
 use Rattle.permutations.specs.Members.{is_member, place_of}
 use Rattle.multigraph.specs.Part.{Rises}
 use Rattle.multigraph.specs.Graph.{Multigraph, edge_count, max_edges, IsWithinLimits}
@@ -68,11 +68,6 @@ module _ (g : Multigraph) (nodes : List Node) (b : IsBlockTree g nodes) (k : ℕ
 
     has : has_vertex nodes k v ≡ true
     has = item-vertex g nodes b.tree k v i d l end
-
-    -- the order of the member at the place that was found
-    pub order-is : (member : List (List ℕ)) (p : ℕ) → member ≡ get_or family k member → p ≡ place_of (node_at nodes k).vertices v
-        → order_at member p ≡ order_at (system_at family k) (place_of (node_at nodes k).vertices v)
-    order-is member p e h = ap₂ order_at (e ∙ get_or_default family k member [] (subst (λ n. k < n) (sym f.each) d)) h
 
     -- has the item
     pub order-has : is_member i (order_at (system_at family k) (place_of (node_at nodes k).vertices v)) ≡ true

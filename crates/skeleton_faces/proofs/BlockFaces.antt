@@ -1,22 +1,17 @@
 -- The faces of a block are those of the map glued from its skeletons: each has as many darts as the weights of darts on that
 -- face add up to, where each dart of an edge of the block weighs one.
-use Rattle.std.proofs.Common.{◌≡◌, ℕ, ◌+◌, ◌*◌, ◌<◌, ◌≤◌, inl, inr, Bool, true, false, ◌&&◌, cond, List, length, refl, sym, ap, ap₂, ◌∙◌, subst, arith}
-use Rattle.std.proofs.lemmas.Bool.{cases_Bool, both_ways, and_from, and_parts, false_from_ne_true}
+use Rattle.std.proofs.Common.{◌≡◌, ℕ, ◌+◌, ◌*◌, ◌<◌, ◌≤◌, inl, inr, Bool, true, false, ◌&&◌, cond, sym, ap, ◌∙◌, subst, arith}
+use Rattle.std.proofs.lemmas.Bool.{cases_Bool, and_from, and_parts}
 use Rattle.permutations.specs.Count.{count, sum_below}
-use Rattle.permutations.specs.Relation.{IsEquivalence}
 use Rattle.permutations.proofs.Sums.{sum_below-le, count-sum}
 use Rattle.permutations.proofs.Injection.{count-injection}
 use Rattle.permutations.proofs.Relation.{same-tests}
 use Rattle.permutations.proofs.Orbits.{orbit-equivalence, orbit-step, orbit-least, orbit-test}
 use Rattle.permutations.proofs.Renaming.{equivalence-through}
-use Rattle.multigraph.specs.Graph.{Multigraph, edge_count}
-use Rattle.rotations.specs.Rotation.{IsRotationSystem}
 use Rattle.dart_maps.specs.Map.{twin, face, same_face}
 use Rattle.dart_maps.specs.Renumbering.{IsRenumbering}
 use Rattle.dart_maps.proofs.Darts.{twin-below}
 use Rattle.dart_maps.proofs.Renumber.{copied, copied-equivalence, copied-live, copied-dead, copied-says}
-use Rattle.faces.specs.Maps.{dart_after}
-use Rattle.faces.proofs.MapSteps.{map-permutes}
 use Rattle.skeleton_faces.proofs.FaceSums.{sum_of, face_sum, sum_of-injection}
 
 -- a map within another, the other darts of which may have steps of their own

@@ -1,7 +1,7 @@
 -- The weights of the faces of a skeleton in all its plane rotation systems: those of polygons and small nodes have one, those of
 -- triconnected skeletons two, mirror images, in which the faces are the same; each face of a bond is a pair of items.
-use Rattle.std.proofs.Common.{◌≡◌, ◌≢◌, ℕ, ◌+◌, ◌*◌, ◌/◌, ◌%◌, ◌<◌, ◌≤◌, ◌⊎◌, Bool, true, false, not, ◌&&◌, ◌||◌, ◌==◌, cond, List, length, zero, suc, inl, inr, refl, sym, ap, ap₂, ◌∙◌, subst, arith, eq-eqb, eqb-true}
-use Rattle.std.proofs.lemmas.Bool.{cases_Bool, cases_eq, both_ways, ne_eqb, or_cases, or_left, or_right}
+use Rattle.std.proofs.Common.{◌≡◌, ◌≢◌, ℕ, ◌+◌, ◌*◌, ◌/◌, ◌%◌, ◌<◌, ◌≤◌, ◌⊎◌, Bool, true, false, not, ◌&&◌, ◌||◌, ◌==◌, List, length, zero, suc, inl, inr, refl, sym, ap, ◌∙◌, subst, arith, eq-eqb, eqb-true}
+use Rattle.std.proofs.lemmas.Bool.{cases_Bool, cases_eq, or_cases, or_left, or_right}
 use Rattle.std.proofs.lemmas.List.{length-map}
 use Rattle.permutations.specs.Permutation.{Permutes, orbit_links}
 use Rattle.permutations.specs.Relation.{connected}
@@ -13,27 +13,25 @@ use Rattle.permutations.proofs.Permutations.{permutes-inverse}
 use Rattle.multigraph.specs.Graph.{Multigraph, IsGraph, edge_count}
 use Rattle.rotations.specs.Rotation.{IsRotationSystem}
 use Rattle.rotations.specs.Runs.{mirror_image}
-use Rattle.dart_maps.specs.Map.{twin, face, IsMap, same_face, same_vertex}
-use Rattle.dart_maps.proofs.Darts.{twin-below, twin-twin, twin-edge, edge-twin, twin-other, face-permutes, dart-cases}
-use Rattle.faces.specs.Euler.{dart_count, tail, IsPlane}
+use Rattle.dart_maps.specs.Map.{twin, face, IsMap, same_face}
+use Rattle.dart_maps.proofs.Darts.{twin-below, twin-twin, twin-edge, edge-twin, face-permutes}
+use Rattle.faces.specs.Euler.{tail, IsPlane}
 use Rattle.faces.specs.Maps.{dart_after, dart_before}
 use Rattle.faces.proofs.MapSteps.{map-permutes, after-tail}
 use Rattle.faces.proofs.MapMirror.{mirror-after}
 use Rattle.faces.proofs.MapVertices.{tail-vertex}
-use Rattle.pair_split.specs.Skeleton.{HasPoles, IsOfKind}
+use Rattle.pair_split.specs.Skeleton.{HasPoles}
 use Rattle.pair_split.specs.Split.{skeleton, items_of, piece_ends}
 use Rattle.pair_split.specs.Tutte.{Node, components, node_at, node_item, piece_of}
 use Rattle.pair_split.specs.declared.components.Kind.{Kind}
 use Rattle.pair_split.specs.declared.components.Kind.TheVariants.{S, P, R, B}
-use Rattle.pair_split.specs.declared.components.What.TheVariants.{Link}
 use Rattle.pair_split.proofs.NodeParts.{node-pieces}
 use Rattle.skeletons.specs.Items.{IsBlockTree}
-use Rattle.skeletons.specs.Families.{skeleton_graph, system_at, AreSkeletonSystems}
+use Rattle.skeletons.specs.Families.{skeleton_graph}
 use Rattle.skeletons.specs.Moves.{IsNodeOfKind}
-use Rattle.skeleton_runs.proofs.SkeletonGraph.{skeleton-graph, skeleton-triconnected, graph-edges}
+use Rattle.skeleton_runs.proofs.SkeletonGraph.{skeleton-graph, skeleton-triconnected}
 use Rattle.planarity.proofs.TwoSystems.{two-systems}
-use Rattle.skeleton_planes.proofs.RunTests.{end_of}
-use Rattle.skeleton_planes.proofs.SkeletonDarts.{dart-item, item-dart, tail-place, step-item}
+use Rattle.skeleton_planes.proofs.SkeletonDarts.{item-dart, tail-place, step-item}
 use Rattle.skeleton_planes.proofs.BondSkeleton.{item-ends, plane-back, places-differ}
 use Rattle.skeleton_planes.proofs.Linked.{twin-end}
 use Rattle.skeleton_planes.proofs.OneSystem.{kind-of, polygon-law, small-law}

@@ -12,7 +12,7 @@ use Rattle.skeletons.specs.Items.{IsBlockTree}
 use Rattle.skeletons.specs.Families.{skeleton_graph, system_at, AreSkeletonSystems}
 use Rattle.skeleton_planes.proofs.SkeletonDarts.{dart-item}
 use Rattle.skeleton_choices.proofs.Plane.{Parts, parts}
-use Rattle.skeleton_faces.specs.Faces.{skeleton_weight, IsSkeletonDart, AreAcross, LinksAreHeavy, NoneIsHeavier}
+use Rattle.skeleton_faces.specs.Faces.{skeleton_weight, LinksAreHeavy, NoneIsHeavier}
 use Rattle.skeleton_faces.specs.Tables.{IsTable}
 use Rattle.skeleton_faces.specs.Laws.{NoSystemHasLonger}
 use Rattle.skeleton_faces.proofs.EachFamily.{other-weight, bond-weight, partner, partner-in, partner-other}

@@ -1,19 +1,17 @@
 -- Sums of weights over faces do not grow by gluing, where at first no face of a dart of a link has more than the link: the two
 -- faces that become one have no more than the link each, and the link's darts go.
-use Rattle.std.proofs.Common.{◌≡◌, ◌≢◌, ℕ, ◌+◌, ◌*◌, ◌<◌, ◌≤◌, ◌⊎◌, inl, inr, Bool, true, false, ◌||◌, List, [], ◌∷◌, refl, sym, ap, ◌∙◌, subst, arith}
+use Rattle.std.proofs.Common.{◌≡◌, ◌≢◌, ℕ, ◌+◌, ◌*◌, ◌<◌, ◌≤◌, ◌⊎◌, inl, inr, Bool, true, false, ◌||◌, List, [], ◌∷◌, sym, ap, ◌∙◌, subst, arith}
 use Rattle.std.proofs.lemmas.Bool.{cases_Bool, both_ways, or_cases, false_from_ne_true}
-use Rattle.permutations.specs.Relation.{connected}
 use Rattle.permutations.proofs.Orbits.{orbit-equivalence}
 use Rattle.dart_maps.specs.Map.{twin, face, IsMap, same_face, same_component}
-use Rattle.dart_maps.specs.Changes.{glued}
 use Rattle.dart_maps.specs.Order.{one_of_four}
 use Rattle.dart_maps.proofs.Darts.{twin-below, twin-twin}
 use Rattle.skeleton_planes.proofs.Seams.{IsOff, AreFacing, AreJoined}
-use Rattle.skeleton_planes.proofs.LinkLists.{all_glued, is_used, part_links, IsLinkOf, AreLinksOf, IsStage}
+use Rattle.skeleton_planes.proofs.LinkLists.{all_glued, is_used, AreLinksOf, IsStage}
 use Rattle.skeleton_planes.proofs.Joined.{four-off}
 use Rattle.skeleton_planes.proofs.Stages.{neither, facing, joined, all-stages, used-twin}
-use Rattle.skeleton_faces.proofs.FaceSums.{sum_of, face_sum, sum_of-two, face_sum-one, sum_of-more}
-use Rattle.skeleton_faces.proofs.JoinedFaces.{on_either, facing-twins, joined-twins, off-twins, either-kept, lower-kept, other-before, side-before, two_t, two_w}
+use Rattle.skeleton_faces.proofs.FaceSums.{face_sum, sum_of-two, face_sum-one, sum_of-more}
+use Rattle.skeleton_faces.proofs.JoinedFaces.{on_either, facing-twins, joined-twins, off-twins, either-kept, other-before, side-before, two_t, two_w}
 
 -- at most what is at most that
 up-to : {a b c : ℕ} → a ≤ b → b ≤ c → a ≤ c

@@ -1,7 +1,7 @@
 -- The faces chosen in a family of plane rotation systems make one face of the block.
-use Rattle.std.proofs.Common.{◌≡◌, ◌≢◌, ℕ, zero, suc, ◌+◌, ◌*◌, ◌/◌, ◌%◌, ◌<◌, ◌≤◌, ◌⊎◌, Bool, true, false, not, ◌&&◌, ◌||◌, ◌==◌, cond, List, [], ◌∷◌, length, inl, inr, refl, sym, ap, ap₂, ◌∙◌, subst, arith, eq-eqb, eqb-true, lt-ltb, ltb-true, le-ltb, All}
-use Rattle.std.proofs.lemmas.Bool.{cases_Bool, cases_eq, cases_lt, both_ways, and_from, and_parts, or_cases, or_left, or_right, ne_eqb, false_from_ne_true}
-use Rattle.std.proofs.lemmas.List.Elements.{All-head, All-tail, All-nil, All-cons}
+use Rattle.std.proofs.Common.{◌≡◌, ◌≢◌, ℕ, zero, suc, ◌+◌, ◌*◌, ◌/◌, ◌%◌, ◌<◌, ◌≤◌, ◌⊎◌, Bool, true, false, not, ◌&&◌, ◌||◌, ◌==◌, cond, List, [], ◌∷◌, length, inl, inr, refl, sym, ap, ap₂, ◌∙◌, subst, arith, lt-ltb, ltb-true, le-ltb, All}
+use Rattle.std.proofs.lemmas.Bool.{cases_Bool, cases_eq, cases_lt, both_ways, and_from, and_parts, or_left, or_right, ne_eqb}
+use Rattle.std.proofs.lemmas.List.Elements.{All-head, All-tail}
 use Rattle.permutations.specs.Count.{sum_below}
 use Rattle.permutations.specs.Relation.{connected}
 use Rattle.permutations.proofs.Sums.{sum_below-add, sum_below-le}
@@ -14,7 +14,7 @@ use Rattle.dart_maps.proofs.Darts.{twin-below, twin-edge, twin-cases, twin-twin,
 use Rattle.dart_maps.proofs.FourDarts.{four-cases, four-members}
 use Rattle.faces.specs.Euler.{dart_count, IsPlane}
 use Rattle.faces.specs.Maps.{dart_after}
-use Rattle.pair_split.specs.Tutte.{Node, components, node_at, node_item}
+use Rattle.pair_split.specs.Tutte.{Node, node_at, node_item}
 use Rattle.pair_split.specs.declared.components.What.{What}
 use Rattle.pair_split.specs.declared.components.What.TheVariants.{Real, Link}
 use Rattle.skeletons.specs.Items.{IsBlockTree}
@@ -23,7 +23,7 @@ use Rattle.skeletons.proofs.NodeItems.{stands-of}
 use Rattle.skeleton_planes.proofs.LinkLists.{all_glued, is_used, part_links, AreLinksOf}
 use Rattle.skeleton_planes.proofs.Numbering.{coded, part_of, local_of, united}
 use Rattle.skeleton_planes.proofs.RunTests.{is_dart}
-use Rattle.skeleton_planes.proofs.Coded.{part-coded, local-coded, coded-local, coded-below, coded-twin, part-below, part-twin, some-width}
+use Rattle.skeleton_planes.proofs.Coded.{part-coded, local-coded, coded-local, coded-below, coded-twin, part-below, part-twin}
 use Rattle.skeleton_planes.proofs.SkeletonDarts.{item-dart, dart-item}
 use Rattle.skeleton_planes.proofs.Stages.{used-twin}
 use Rattle.skeleton_planes.proofs.Whole.{stepped, stepped_back, dart-fits, place_in, ends_in, begins_in, whole-map, whole-part, whole-places, whole-follows}

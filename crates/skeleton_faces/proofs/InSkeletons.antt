@@ -1,9 +1,9 @@
 -- The faces of the skeletons in the map of all of them side by side.
-use Rattle.std.proofs.Common.{◌≡◌, ℕ, ◌+◌, ◌*◌, ◌/◌, ◌<◌, ◌≤◌, Bool, true, false, ◌&&◌, ◌==◌, cond, ltb, List, length, inl, inr, refl, sym, ap, ap₂, ◌∙◌, subst, arith, eq-eqb, eqb-true, lt-ltb, ltb-true, le-ltb}
+use Rattle.std.proofs.Common.{◌≡◌, ℕ, ◌+◌, ◌*◌, ◌/◌, ◌<◌, ◌≤◌, Bool, true, false, ◌&&◌, ◌==◌, cond, ltb, List, length, inl, inr, sym, ap, ap₂, ◌∙◌, subst, arith, eq-eqb, eqb-true, lt-ltb, ltb-true, le-ltb}
 use Rattle.std.proofs.lemmas.Bool.{cases_Bool, cases_lt, and_from, and_parts, both_ways}
 use Rattle.permutations.proofs.Relation.{same-tests}
 use Rattle.multigraph.specs.Graph.{Multigraph, edge_count}
-use Rattle.dart_maps.specs.Map.{twin, same_face}
+use Rattle.dart_maps.specs.Map.{twin}
 use Rattle.dart_maps.proofs.Darts.{twin-below, twin-twin, twin-edge}
 use Rattle.faces.specs.Maps.{dart_after}
 use Rattle.pair_split.specs.Tutte.{Node, node_at}
@@ -16,7 +16,7 @@ use Rattle.skeleton_planes.proofs.SkeletonDarts.{dart-item, skeleton-map}
 use Rattle.skeleton_planes.proofs.Whole.{stepped, dart-fits, whole-part, whole-local, whole-coded}
 use Rattle.skeleton_faces.specs.Faces.{skeleton_weight}
 use Rattle.skeleton_faces.proofs.FaceSums.{face_sum}
-use Rattle.skeleton_faces.proofs.BlockFaces.{IsInside, numbered-face, inside-sum}
+use Rattle.skeleton_faces.proofs.BlockFaces.{IsInside, inside-sum}
 
 -- the weight of a dart of the map of all skeletons: that of its item, and nothing where there is none
 abbrev pub dart_weight : ℕ → List Node → (ℕ → ℕ → ℕ) → ℕ → ℕ

@@ -1,18 +1,16 @@
 -- A face put together from faces of the parts: some darts are chosen, whole faces, one in each part at most, and of the two
 -- edges of each link the one has a dart chosen where the other has its twin chosen. Then chosen darts of parts that links with
 -- chosen darts join lie on one face after the gluing.
-use Rattle.std.proofs.Common.{◌≡◌, ◌≢◌, ℕ, ◌+◌, ◌*◌, ◌<◌, ◌≤◌, ◌⊎◌, inl, inr, Bool, true, false, not, ◌&&◌, ◌||◌, ◌==◌, cond, List, [], ◌∷◌, refl, sym, ap, ◌∙◌, subst, arith, eq-eqb, eqb-true}
-use Rattle.std.proofs.lemmas.Bool.{cases_Bool, cases_eq, both_ways, ne_eqb, and_from, and_parts, or_cases, or_left, or_right, false_from_ne_true}
-use Rattle.permutations.specs.Relation.{IsEquivalence, connected}
+use Rattle.std.proofs.Common.{◌≡◌, ◌≢◌, ℕ, ◌+◌, ◌*◌, ◌<◌, ◌⊎◌, inl, inr, Bool, true, false, not, ◌&&◌, ◌||◌, ◌==◌, cond, List, [], ◌∷◌, refl, sym, ap, ◌∙◌, subst, arith, eqb-true}
+use Rattle.std.proofs.lemmas.Bool.{cases_Bool, both_ways, ne_eqb, or_cases, or_left, or_right}
+use Rattle.permutations.specs.Relation.{connected}
 use Rattle.permutations.proofs.Relation.{join-cases, connected-reflexive, connected-equivalence}
-use Rattle.permutations.proofs.Orbits.{orbit-equivalence}
-use Rattle.dart_maps.specs.Map.{twin, face, IsMap, same_face, same_component}
-use Rattle.dart_maps.specs.Order.{one_of_four}
+use Rattle.dart_maps.specs.Map.{twin, IsMap, same_face, same_component}
 use Rattle.dart_maps.proofs.Darts.{twin-below, twin-twin, twin-other}
 use Rattle.skeleton_planes.proofs.Seams.{IsOff}
 use Rattle.skeleton_planes.proofs.LinkLists.{all_glued, is_used, part_links, AreLinksOf}
 use Rattle.skeleton_planes.proofs.Stages.{used-twin}
-use Rattle.skeleton_faces.proofs.FaceSums.{sum_of, face_sum, sum_of-ext, sum_of-more, sum_of-take}
+use Rattle.skeleton_faces.proofs.FaceSums.{sum_of, sum_of-ext, sum_of-take}
 use Rattle.skeleton_faces.proofs.JoinedFaces.{on_either, either-together, lower-together, together-stay}
 use Rattle.skeleton_faces.proofs.Falling.{AreOnTwo, stage, last-facing, last-joined, last-map, last-off, stay-two}
 
@@ -125,14 +123,6 @@ module _ (m : ℕ) (next previous : ℕ → ℕ) (b : IsMap m next previous) (pl
       → is_used links x ≡ false → is_used links y ≡ false → connected (part_links part (on_links on links)) (part x) (part y) ≡ true → same_face m (all_glued links next) x y ≡ true
   meet [] a o c x y lx ly ox oy ux uy t = one x y lx ly ox oy (eqb-true (part x) (part y) t)
   meet ((d, e) ∷ links) a o c x y lx ly ox oy ux uy t = meet-step d e links a o c (meet links a.4 o.2 c.2) x y lx ly ox oy ux uy t
-
-  -- so the face of a chosen dart that is left has all chosen darts that are left, where all of their parts are joined
-  pub meet-sum : (w : ℕ → ℕ) (links : List (ℕ × ℕ)) → AreLinksOf m next place ends begins part links → AreOnTwo m next links → AreMatched on links → (x : ℕ) → x < 2 * m → on x ≡ true → is_used links x ≡ false
-      → ((y : ℕ) → y < 2 * m → on y ≡ true → connected (part_links part (on_links on links)) (part x) (part y) ≡ true)
-      → sum_of (2 * m) (λ y. on y && not (is_used links y)) w ≤ face_sum m (all_glued links next) w x
-  meet-sum w links a o c x l ox ux joined = sum_of-more (2 * m) (λ y. on y && not (is_used links y)) (same_face m (all_glued links next) x) w
-      (λ y ly i. let p = and_parts (on y) (not (is_used links y)) i in
-      meet links a o c x y l ly ox p.0 ux (false_from_ne_true (is_used links y) (λ u. both_ways (not (is_used links y)) (ap not u) p.1)) (joined y ly p.0))
 
   -- the chosen darts that are left weigh as much as all of them less the links
   pub left-weight : (w : ℕ → ℕ) → ((x : ℕ) → w (twin x) ≡ w x) → (links : List (ℕ × ℕ)) → AreLinksOf m next place ends begins part links → AreMatched on links

@@ -1,31 +1,29 @@
 -- No face of a block is longer than the heaviest face of its skeletons.
-use Rattle.std.proofs.Common.{◌≡◌, ◌≢◌, ℕ, ◌+◌, ◌*◌, ◌/◌, ◌%◌, ◌<◌, ◌≤◌, Bool, true, false, ◌&&◌, cond, List, [], ◌∷◌, length, inl, inr, refl, sym, ap, ap₂, ◌∙◌, subst, arith, lt-ltb, ltb-true, All}
-use Rattle.std.proofs.lemmas.Bool.{cases_Bool, both_ways, and_parts, false_from_ne_true, true≢false}
+use Rattle.std.proofs.Common.{◌≡◌, ◌≢◌, ℕ, ◌+◌, ◌*◌, ◌/◌, ◌%◌, ◌<◌, ◌≤◌, Bool, true, false, ◌&&◌, cond, List, [], ◌∷◌, length, inl, inr, sym, ap, ◌∙◌, subst, arith, All}
+use Rattle.std.proofs.lemmas.Bool.{and_parts, false_from_ne_true, true≢false}
 use Rattle.std.proofs.lemmas.List.Elements.{All-head, All-tail}
 use Rattle.multigraph.specs.Graph.{Multigraph, edge_count}
 use Rattle.rotations.specs.Rotation.{IsRotationSystem}
 use Rattle.dart_maps.specs.Map as maps
-use Rattle.dart_maps.specs.Map.{twin, IsMap, same_face}
-use Rattle.dart_maps.proofs.Darts.{twin-below, twin-edge, twin-cases}
-use Rattle.faces.specs.Euler.{dart_count, IsPlane}
+use Rattle.dart_maps.specs.Map.{twin}
+use Rattle.dart_maps.proofs.Darts.{twin-edge, twin-cases}
+use Rattle.faces.specs.Euler.{IsPlane}
 use Rattle.faces.specs.Maps.{dart_after}
 use Rattle.faces.proofs.MapSteps.{map-permutes}
 use Rattle.faces.proofs.MapCounts.{plane-map}
 use Rattle.pair_split.specs.Tutte.{Node, node_at, node_item}
-use Rattle.pair_split.specs.declared.components.What.{What}
-use Rattle.pair_split.specs.declared.components.What.TheVariants.{Real, Link}
 use Rattle.skeletons.specs.Items.{IsBlockTree}
 use Rattle.skeletons.specs.Families.{skeleton_graph, system_at, AreSkeletonSystems, FollowsFamily}
 use Rattle.skeleton_runs.proofs.SkeletonGraph.{skeleton-graph}
 use Rattle.skeleton_planes.proofs.LinkLists.{all_glued, is_used, AreLinksOf, IsLinkOf}
 use Rattle.skeleton_planes.proofs.Numbering.{coded, part_of, local_of, united}
 use Rattle.skeleton_planes.proofs.RunTests.{is_dart}
-use Rattle.skeleton_planes.proofs.Coded.{part-coded, local-coded, coded-local, coded-twin, part-below, part-twin}
+use Rattle.skeleton_planes.proofs.Coded.{coded-local, coded-twin, part-below, part-twin}
 use Rattle.skeleton_planes.proofs.SkeletonDarts.{item-dart}
 use Rattle.skeleton_planes.proofs.Whole.{stepped, stepped_back, place_in, ends_in, begins_in, whole-map, whole-plane, whole-part, whole-places, whole-follows}
-use Rattle.skeleton_planes.proofs.TreeLinks.{AreOfLink, Built}
+use Rattle.skeleton_planes.proofs.TreeLinks.{AreOfLink}
 use Rattle.skeleton_planes.proofs.Followed.{IsCarried, carried, is_real, edge_of, real-edge}
-use Rattle.skeleton_faces.specs.Faces.{face_length, skeleton_weight, AreAcross, EdgesWeighOne, LinksAreHeavy, NoneIsHeavier}
+use Rattle.skeleton_faces.specs.Faces.{face_length, skeleton_weight, EdgesWeighOne, LinksAreHeavy}
 use Rattle.skeleton_faces.specs.Laws.{FacesAreNoLonger}
 use Rattle.skeleton_faces.proofs.FaceSums.{face_sum}
 use Rattle.skeleton_faces.proofs.Falling.{IsLight, AreLight, sums-fall}

@@ -1,20 +1,19 @@
 -- Faces of the skeletons that fit together are one face of the block, as long as the face at the top weighs.
-use Rattle.std.proofs.Common.{◌≡◌, ◌≢◌, ℕ, zero, suc, ◌+◌, ◌*◌, ◌/◌, ◌%◌, ◌<◌, ◌≤◌, ◌⊎◌, Bool, true, false, not, ◌&&◌, ◌||◌, ◌==◌, cond, List, [], ◌∷◌, length, inl, inr, refl, sym, ap, ap₂, ◌∙◌, subst, arith, eq-eqb, eqb-true, lt-ltb, ltb-true, All}
-use Rattle.std.proofs.lemmas.Bool.{cases_Bool, cases_eq, both_ways, and_from, and_parts, or_cases, or_left, or_right, ne_eqb, false_from_ne_true}
+use Rattle.std.proofs.Common.{◌≡◌, ◌≢◌, ℕ, zero, suc, ◌+◌, ◌*◌, ◌/◌, ◌%◌, ◌<◌, ◌≤◌, ◌⊎◌, Bool, true, false, ◌&&◌, ◌||◌, ◌==◌, cond, List, [], ◌∷◌, inl, inr, refl, sym, ap, ap₂, ◌∙◌, subst, arith, All}
+use Rattle.std.proofs.lemmas.Bool.{cases_Bool, cases_eq, both_ways, or_cases, or_left, or_right}
 use Rattle.std.proofs.lemmas.List.Elements.{All-head, All-tail}
 use Rattle.permutations.specs.Count.{sum_below}
 use Rattle.permutations.specs.Relation.{connected}
-use Rattle.permutations.proofs.Sums.{sum_below-ext, sum_below-le}
-use Rattle.permutations.proofs.Relation.{connected-more, connected-first, connected-reflexive, connected-symmetric, connected-transitive}
+use Rattle.permutations.proofs.Sums.{sum_below-ext}
+use Rattle.permutations.proofs.Relation.{connected-more, connected-first}
 use Rattle.dart_maps.specs.Map.{twin}
 use Rattle.dart_maps.specs.Order.{one_of_four}
-use Rattle.dart_maps.proofs.Darts.{twin-twin}
-use Rattle.dart_maps.proofs.FourDarts.{four-cases, four-members}
+use Rattle.dart_maps.proofs.FourDarts.{four-cases}
 use Rattle.skeleton_planes.proofs.LinkLists.{is_used, part_links}
 use Rattle.skeleton_planes.proofs.Numbering.{coded, part_of, local_of}
 use Rattle.skeleton_planes.proofs.Coded.{part-coded, local-coded}
 use Rattle.skeleton_faces.proofs.FaceSums.{sum_of}
-use Rattle.skeleton_faces.proofs.Meeting.{AreMatched, on_links, link_weight, link_weights}
+use Rattle.skeleton_faces.proofs.Meeting.{AreMatched, on_links}
 
 -- a used dart is one of a link of the list; where it is chosen, the link is one with a chosen dart, and joins its two parts
 pub used-joined : (part : ℕ → ℕ) (on : ℕ → Bool) (IsGood : ℕ × ℕ → Type 0) (links : List (ℕ × ℕ)) → All IsGood links → AreMatched on links → (x : ℕ) → on x ≡ true → is_used links x ≡ true

@@ -1,10 +1,10 @@
 -- An edge of a plane map that is no bridge has its two darts on different faces: otherwise the map would fall apart if the
 -- edge were taken from its vertex.
-use Rattle.std.proofs.Common.{◌≡◌, ◌≢◌, ℕ, ◌*◌, ◌<◌, Bool, true, false, not, ◌&&◌, ◌==◌, inl, inr, refl, sym, ap, ◌∙◌, subst, arith, eq-eqb, eqb-true}
-use Rattle.std.proofs.lemmas.Bool.{cases_Bool, cases_eq, both_ways, ne_eqb, false_from_ne_true}
+use Rattle.std.proofs.Common.{◌≡◌, ◌≢◌, ℕ, ◌*◌, ◌<◌, Bool, true, false, not, ◌&&◌, ◌==◌, inl, inr, refl, sym, ap, ◌∙◌, subst, eq-eqb}
+use Rattle.std.proofs.lemmas.Bool.{cases_eq, both_ways, ne_eqb, false_from_ne_true}
 use Rattle.permutations.specs.Relation.{IsEquivalence}
 use Rattle.permutations.specs.Exchange.{exchange}
-use Rattle.permutations.proofs.Permutations.{exchange-left, exchange-right, exchange-other, permutes-back}
+use Rattle.permutations.proofs.Permutations.{exchange-left, exchange-other, permutes-back}
 use Rattle.permutations.proofs.Orbits.{orbit-equivalence, orbit-step}
 use Rattle.dart_maps.specs.Map.{twin, face, IsMap, IsPlane, same_vertex, same_face, same_component}
 use Rattle.dart_maps.proofs.Darts.{twin-below, twin-twin, twin-other, face-twin}
@@ -15,11 +15,7 @@ use Rattle.skeleton_planes.proofs.Stages.{class-kept}
 
 -- a plane map and a dart d, not alone, whose edge is no bridge
 module _ (m : ℕ) (f g : ℕ → ℕ) (b : IsMap m f g) (plane : IsPlane m f) (d : ℕ) (l : d < 2 * m) (company : f d ≢ d) (bridge : IsNoBridge m f d) where
-  -- the dart before d
-  abbrev p : ℕ
-  p = g d
-
-  -- it is a dart
+  -- the dart before d is a dart
   lp : g d < 2 * m
   lp = b.back d l
 
@@ -31,11 +27,7 @@ module _ (m : ℕ) (f g : ℕ → ℕ) (b : IsMap m f g) (plane : IsPlane m f) (
   other : g d ≢ d
   other i = company (ap f (sym i) ∙ after-p)
 
-  -- d taken from its vertex
-  abbrev h : ℕ → ℕ
-  h = exchange (g d) d f
-
-  -- being in one component of that
+  -- being in one component of the map with d taken from its vertex
   c : IsEquivalence (same_component m (exchange (g d) d f))
   c = component-equivalence m (exchange (g d) d f)
 

@@ -1,8 +1,8 @@
--- Each cyclic order of a bond's items is that of a plane rotation system at the lesser pole; and the poles' places are 0 and 1.
-use Rattle.std.proofs.Common.{◌≡◌, ℕ, ◌<◌, ◌⊎◌, ◌==◌, Bool, true, cond, List, [], ◌∷◌, map, reverse, inl, inr, refl, sym, ap, ◌∙◌, subst, eq-eqb, suc}
+-- Each cyclic order of a bond's items is that of a plane rotation system at the lesser pole.
+use Rattle.std.proofs.Common.{◌≡◌, ℕ, ◌<◌, ◌⊎◌, ◌==◌, cond, List, [], map, reverse, inl, inr, sym, ap, ◌∙◌, subst}
 use Rattle.std.proofs.lemmas.List.{get_or-map, length-map}
-use Rattle.permutations.specs.Members.{is_member, place_of}
-use Rattle.permutations.specs.Cyclic.{first_or, from_least}
+use Rattle.permutations.specs.Members.{is_member}
+use Rattle.permutations.specs.Cyclic.{from_least}
 use Rattle.permutations.proofs.Members.{member-reverse, distinct-reverse}
 use Rattle.permutations.proofs.NormalForm.{from_least-member, from_least-distinct}
 use Rattle.permutations.proofs.Arrangements.{permutation-member, permutation-distinct, permutation-from_members}
@@ -14,15 +14,12 @@ use Rattle.faces.proofs.MapLists.{first-same}
 use Rattle.faces.proofs.MapPartOrders.{from_least-least}
 use Rattle.pair_split.specs.Skeleton.{HasPoles}
 use Rattle.pair_split.specs.Split.{skeleton}
-use Rattle.pair_split.specs.Tutte.{Node, components, node_at}
+use Rattle.pair_split.specs.Tutte.{Node, components}
 use Rattle.pair_split.specs.declared.components.Kind.TheVariants.{P}
-use Rattle.skeletons.specs.Items.{least_vertex, greatest_vertex, IsBlockTree}
+use Rattle.skeletons.specs.Items.{IsBlockTree}
 use Rattle.skeletons.specs.Families.{skeleton_graph}
 use Rattle.faces.specs.Euler.{IsPlaneSystem}
 use Rattle.skeletons.specs.Moves.{IsNodeOfKind}
-use Rattle.skeletons.proofs.Vertices.{least-has, greatest-has, poles-differ}
-use Rattle.permutations.proofs.Places.{place-below}
-use Rattle.skeleton_runs.proofs.SkeletonGraph.{place-once}
 use Rattle.skeleton_planes.specs.Laws.{BondHasEachOrder}
 use Rattle.skeleton_planes.proofs.BondSkeleton.{lesser-in, greater-in, same-incident}
 use Rattle.skeleton_planes.proofs.OneSystem.{kind-of, place-cases, lesser-place, greater-place, bond-law}
@@ -52,21 +49,6 @@ module _ (g : Multigraph) (nodes : List Node) (b : IsBlockTree g nodes) (k : ℕ
   places p l = elim (place-cases g nodes b k n.0 poles p l) [
     | inl e ↦ inl (e ∙ lesser-place g nodes b k n.0 poles)
     | inr e ↦ inr (e ∙ greater-place g nodes b k n.0 poles)
-  ]
-
-  -- the least vertex has place 0
-  pub least-place : place_of (node_at nodes k).vertices (least_vertex nodes k) ≡ 0
-  least-place = at (node_at nodes k).vertices (least-has g nodes b k n.0)
-    where
-      at : (l : List ℕ) → is_member (first_or 0 l) l ≡ true → place_of l (first_or 0 l) ≡ 0
-      at [] m = refl
-      at (x ∷ l) m = ap (λ (t : Bool). cond t 0 (suc (place_of l x))) (eq-eqb x x refl)
-
-  -- and the greatest place 1
-  pub greatest-place : place_of (node_at nodes k).vertices (greatest_vertex nodes k) ≡ 1
-  greatest-place = elim (places (place_of (node_at nodes k).vertices (greatest_vertex nodes k)) (place-below (node_at nodes k).vertices (greatest_vertex nodes k) (greatest-has g nodes b k n.0))) [
-    | inr e ↦ e
-    | inl e ↦ absurd (poles-differ g nodes b k n (place-once (node_at nodes k).vertices (least_vertex nodes k) (greatest_vertex nodes k) (least-has g nodes b k n.0) (greatest-has g nodes b k n.0) (least-place ∙ sym e)))
   ]
 
   -- a cyclic order of the items

@@ -84,14 +84,6 @@ module _ (g : Multigraph) (nodes : List Node) (b : IsBlockTree g nodes) (family 
   half-twin : (n : ℕ) → twin (2 * n) / 2 ≡ n
   half-twin n = twin-edge (2 * n) ∙ half n
 
-  -- the two darts
-  abbrev d : ℕ
-  d = coded (edge_count g) k (2 * i)
-
-  -- the second
-  abbrev e : ℕ
-  e = coded (edge_count g) j (2 * h)
-
   -- the ends
   first-end : end_of nodes k (2 * i) ≡ end_of nodes j (2 * h)
   first-end = (twin-end nodes k i).0 ∙ sa ∙ sym (twin-end nodes j h).0

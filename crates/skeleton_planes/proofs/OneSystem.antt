@@ -10,7 +10,7 @@ use Rattle.permutations.proofs.Successor.{successor-member, successor-absent}
 use Rattle.permutations.proofs.Turned.{IsTurn-refl}
 use Rattle.permutations.proofs.CyclicSame.{IsTurn-from_successor}
 use Rattle.permutations.proofs.Arrangements.{permutation-member, member-at, member-from_contains, contains-from_member}
-use Rattle.multigraph.specs.Graph.{Multigraph, IsGraph, edge_count, numbers_below, incident_edges}
+use Rattle.multigraph.specs.Graph.{Multigraph, edge_count, numbers_below, incident_edges}
 use Rattle.multigraph.proofs.Below.{length-numbers_below}
 use Rattle.rotations.specs.Rotation.{order_at, IsRotationSystem}
 use Rattle.rotations.proofs.Membership.{member-edge, member-end}
@@ -29,7 +29,7 @@ use Rattle.skeletons.specs.Moves.{IsNodeOfKind}
 use Rattle.skeletons.proofs.NodeItems.{comp-in, vertex-end}
 use Rattle.skeletons.proofs.Systems.{same-turns}
 use Rattle.skeleton_runs.proofs.Sturdy.{polygon-two}
-use Rattle.skeleton_runs.proofs.SkeletonGraph.{place-at, place-of_at, distinct-fewer, skeleton-graph, graph-edges}
+use Rattle.skeleton_runs.proofs.SkeletonGraph.{place-at, place-of_at, distinct-fewer, graph-edges}
 use Rattle.skeleton_runs.proofs.SkeletonGraph.{edge-item as graph-item}
 use Rattle.skeleton_planes.proofs.RunTests.{end_of}
 use Rattle.skeleton_planes.specs.Laws.{PolygonHasOneSystem, BondIsPlaneWhereReversed, SmallHasOneSystem}
@@ -72,10 +72,6 @@ module _ (g : Multigraph) (nodes : List Node) (b : IsBlockTree g nodes) (k : ℕ
   -- the skeleton
   abbrev graph : Multigraph
   graph = skeleton_graph nodes k
-
-  -- it is a graph
-  ok : IsGraph (skeleton_graph nodes k)
-  ok = skeleton-graph g nodes b k l
 
   -- they have the same members at each vertex
   same-round : (p : ℕ) → p < graph.vertex_count → (x : ℕ) → is_member x (order_at s p) ≡ is_member x (order_at t p)

@@ -57,10 +57,6 @@ module _ (g : Multigraph) (nodes : List Node) (b : IsBlockTree g nodes) (family 
   abbrev whole : ℕ → ℕ
   whole = united (edge_count g) (stepped nodes family)
 
-  -- how many edges there are
-  abbrev size : ℕ
-  size = edge_count g * length nodes
-
   -- a dart of an item has room
   pub dart-fits : (k z : ℕ) → k < length nodes → z / 2 < length (node_at nodes k).items → z < 2 * edge_count g
   dart-fits k z l m = let f : length (node_at nodes k).items ≤ edge_count g = few-items g nodes b k l in half-fits z (length (node_at nodes k).items) width m f

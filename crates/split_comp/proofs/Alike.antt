@@ -1,13 +1,11 @@
 -- What is said of sorted darts and of cuts does not depend on the names of the entries.
-use Rattle.std.proofs.Common.{◌≡◌, ℕ, zero, suc, ◌++◌, ◌∷◌, [], ◌<◌, ◌≤◌, ◌⊎◌, inl, inr, ◌||◌, ◌==◌, if◌then◌else◌, List, length, take, refl, sym, ap₂, ◌∙◌, subst, arith}
+use Rattle.std.proofs.Common.{◌≡◌, ℕ, zero, suc, ◌++◌, ◌∷◌, [], ◌<◌, ◌≤◌, inl, inr, ◌||◌, ◌==◌, if◌then◌else◌, List, length, take, refl, sym, ap₂, ◌∙◌, arith}
 use Rattle.std.proofs.Math.Seq.{take-suc}
-use Rattle.pair_split.specs.Family.{Entry, has_end}
+use Rattle.pair_split.specs.Family.{has_end}
 use Rattle.split_comp.specs.declared.items.StackEntry.{StackEntry}
 use Rattle.split_comp.specs.declared.items.StackCut.{StackCut}
-use Rattle.split_comp.specs.declared.items.Dart.{Dart}
-use Rattle.split_comp.specs.Stack.{no_item, item, entry, family, owner, IsSorted}
+use Rattle.split_comp.specs.Stack.{no_item, item, entry, owner}
 use Rattle.split_comp.specs.Cuts.{cut, IsLeastUp, IsAcross, IsBefore, IsStart, IsFirstBelow, IsChain, AreSound, AreComplete}
-use Rattle.split_comp.specs.Frames.{AreAhead}
 
 -- the same entries but for their names
 pub record IsAlike (one other : List StackEntry) : Type 0 where
@@ -31,24 +29,6 @@ module _ (one other : List StackEntry) (a : IsAlike one other) where
 
   end-same : (z i : ℕ) → has_end z (entry (item one i)) ≡ has_end z (entry (item other i))
   end-same z i = λ t. (a.up i t == z) || (a.low i t == z)
-
-  pub alike-sorted : (v n : ℕ) (rest left : List Entry) → length (family other left) ≤ length (family one rest) → IsSorted v n one rest → IsSorted v n other left
-  alike-sorted v n rest left few s = record {
-    reach_rises = λ r q j l m e f g h.
-        let w = s.reach_rises r q j l m (owner-same r ∙ (e ∙ sym (owner-same q))) (omega (arith, a.start q, f)) g (omega (arith, a.up j, h)) in
-        (w.0, omega (arith, a.start r, w.1), w.2, omega (arith, a.up w.0, a.up j, w.3));
-    frond_rises = λ r q j b l m e t u f g.
-        omega (arith, a.up r, a.up j, s.frond_rises r q j (omega (arith, b, few)) l m (owner-same r ∙ (e ∙ sym (owner-same q))) (a.tree r ∙ t) (omega (arith, a.up r, u)) (omega (arith, a.start q, f)) g);
-  }
-
-  pub alike-ahead : (last degree : ℕ → ℕ) (dart : ℕ → ℕ → Dart) (gone more : ℕ → ℕ) (v n : ℕ) (rest left : List Entry) → length (family other left) ≤ length (family one rest) → ((u : ℕ) → gone u ≤ more u) → AreAhead last degree dart gone v n one rest → AreAhead last degree dart more v n other left
-  alike-ahead last degree dart gone more v n rest left few rises s = record {
-    reach_ahead = λ u r k z p l e f g.
-        let w = s.reach_ahead u r k z p l (owner-same r ∙ e) (omega (arith, rises u, f)) g in
-        (w.0, omega (arith, a.start r, w.1), w.2, omega (arith, a.up w.0, w.3));
-    frond_ahead = λ u r k b z p l e t f g. subst (λ (y : ℕ). (y < (dart u k).reach) ⊎ ((y ≡ (dart u k).reach) × (1 ≤ (dart u k).class))) (a.up r)
-        (s.frond_ahead u r k (omega (arith, b, few)) z p l (owner-same r ∙ e) (a.tree r ∙ t) (omega (arith, rises u, f)) g);
-  }
 
   pub alike-least : (t x : ℕ) → IsLeastUp one t x → IsLeastUp other t x
   alike-least t x l = record { least = λ i m w. omega (arith, a.up i, l.least i m (omega (arith, a.size, w))); place = l.place; from = l.from; within = omega (arith, a.size, l.within); attained = sym (a.up l.place) ∙ l.attained }

@@ -27,9 +27,6 @@ use Rattle.split_comp.proofs.Returning.{return-sound, return-complete}
 use Rattle.split_comp.proofs.Going.{one-more, root-left}
 
 module _ (g : Multigraph) (t : NumberedTree) (numbered : IsNumbered g t) (s : PassState) (p : IsPass g t s) (all : at_place s.gone s.at ≡ tree_degree t.palm t.vertex s.at) (not-top : s.at ≢ 0) where
-  abbrev w : ℕ
-  w = s.at
-
   abbrev dart : ℕ → ℕ → Dart
   dart = tree_dart g t.palm t.vertex
 

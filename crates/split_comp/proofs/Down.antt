@@ -44,9 +44,6 @@ fresh-last n m parent degree dart palm w done gone walk none = elim (cases_lt do
 ]
 
 module _ (g : Multigraph) (t : NumberedTree) (s : PassState) (p : IsPass g t s) (more : at_place s.gone s.at < tree_degree t.palm t.vertex s.at) (tree : (tree_dart g t.palm t.vertex s.at (at_place s.gone s.at)).tree ≡ true) where
-  abbrev v : ℕ
-  v = s.at
-
   abbrev dart : ℕ → ℕ → Dart
   dart = tree_dart g t.palm t.vertex
 

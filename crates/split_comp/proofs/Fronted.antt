@@ -64,9 +64,6 @@ module _ (g : Multigraph) (t : NumberedTree) (numbered : IsNumbered g t) (s : Pa
   h-in : f.height < length s.items
   h-in = omega (arith, f.size)
 
-  above : (x : ℕ) → x < last x
-  above = f.stands.above
-
   -- starts of the path are not behind the last entry
   start-h : (z : ℕ) → z ≢ 0 → IsOnPath last s.at z → (i : ℕ) → i < length s.items → (item s.items i).low ≡ s.at → at_place s.start z ≤ i
   start-h z n p i l e = elim (cases_lt i (at_place s.start z)) [
@@ -401,9 +398,6 @@ module _ (g : Multigraph) (t : NumberedTree) (numbered : IsNumbered g t) (s : Pa
 
     l : ℕ
     l = (item s.items f.height).up
-
-    kept : List StackCut
-    kept = drop base n.kept
 
     top-least : IsLeastUp s.items f.height (item s.items f.height).up
     top-least = record { least = λ i a b. omega (arith, ap (λ (j : ℕ). (item s.items j).up) (same i a b)); place = f.height; from = omega arith; within = h-in; attained = refl }

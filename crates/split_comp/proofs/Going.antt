@@ -35,12 +35,6 @@ root-left g t s p = elim (cases_eq s.at 0) [
 ]
 
 module _ (g : Multigraph) (t : NumberedTree) (numbered : IsNumbered g t) (s : PassState) (p : IsPass g t s) (more : at_place s.gone s.at < tree_degree t.palm t.vertex s.at) (frond : (tree_dart g t.palm t.vertex s.at (at_place s.gone s.at)).tree ≡ false) where
-  abbrev v : ℕ
-  v = s.at
-
-  abbrev h : ℕ
-  h = length s.items
-
   abbrev dart : ℕ → ℕ → Dart
   dart = tree_dart g t.palm t.vertex
 

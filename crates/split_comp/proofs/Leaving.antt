@@ -16,7 +16,7 @@ use Rattle.split_comp.specs.Cuts.{no_cut, cut, IsLeastUp, IsBefore, AreSound, Ar
 use Rattle.split_comp.specs.Frames.{AreAhead, AreCutsBelow}
 use Rattle.split_comp.specs.Sides.{IsCutOff, all_items, IsLeast}
 use Rattle.split_comp.specs.Noting.{IsNoted, IsDropped}
-use Rattle.split_comp.specs.Pass.{NumberedTree, IsNumbered, PassState, IsHeld, at_place, IsPass, IsRaised, IsBack, IsFronted, IsSplitOff, CanSplitOff, IsTriangle, new_frond, pushed, cuts_dropped, next_name, lowered}
+use Rattle.split_comp.specs.Pass.{NumberedTree, IsNumbered, PassState, IsHeld, at_place, IsPass, IsBack, IsFronted, IsSplitOff, CanSplitOff, IsTriangle, new_frond, pushed, cuts_dropped, next_name, lowered}
 use Rattle.split_comp.proofs.Entries.{up-end, item-front, item-last, item-take, length-push, family-cases}
 use Rattle.split_comp.proofs.Stretch.{side_at, cut-is}
 use Rattle.split_comp.proofs.Renewed.{IsRenewed, stack-new, left-within, within-left, family-new}
@@ -39,9 +39,6 @@ filter-all [] = refl
 filter-all (x ∷ l) = omega (arith, filter-all l)
 
 module _ (g : Multigraph) (t : NumberedTree) (numbered : IsNumbered g t) (w : ℕ) (s : PassState) (b : IsBack g t w s) (no-tri : IsTriangle s → ⊥) (last-cut : at_place s.base w < length s.cuts → (cut s.cuts (length s.cuts - 1)).up ≡ s.at → ⊥) where
-  abbrev r : IsRaised g t w s
-  r = b.raised
-
   abbrev h : ℕ
   h = b.raised.height
 

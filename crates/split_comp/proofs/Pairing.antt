@@ -265,12 +265,6 @@ module _ (g : Multigraph) (t : NumberedTree) (numbered : IsNumbered g t) (w : �
             (λ d m. elim (Contains-push_cases front c d m) [ inl q ↦ inl q | inr q ↦ inr (omega (arith, ap (λ (y : StackCut). y.start) q)) ]) completes)
             (fewer-lows g t w s b.raised some)
 
-        pub pair-starts : (i : ℕ) → i < length (drop (at_place s.base w) (take (length s.cuts - 1) s.cuts)) → (cut (drop (at_place s.base w) (take (length s.cuts - 1) s.cuts)) i).start < pair-raised.height
-        pair-starts i l = omega (arith, (front-rises i l).0, pair-raised.atop.size, renewed.size, k-j)
-          where
-            k-j : k ≤ j
-            k-j = elim renewed.few [ inl q ↦ omega (arith, q) | inr q ↦ omega (arith, q) ]
-
       shape-x : ((x.tree ≡ true) × ((p : ℕ) × IsTreeAt s.items x.low p × (k ≤ p) × ((item s.items p).start ≡ x.start) × (x.start < k))) ⊎ ((x.tree ≡ false) × (x.low ≡ s.at) × (x.start ≡ k))
       shape-x = inl (refl, (sound.below.place, tree-b, omega (arith, behind), sound.below.starts, sound.from))
 

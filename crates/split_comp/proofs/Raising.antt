@@ -27,12 +27,6 @@ module _ (g : Multigraph) (t : NumberedTree) (numbered : IsNumbered g t) (w : �
   abbrev last : ℕ → ℕ
   last = b.palm.last
 
-  abbrev v : ℕ
-  v = s.at
-
-  abbrev h : ℕ
-  h = b.height
-
   pub h-in : b.height < length s.items
   h-in = omega (arith, b.atop.size)
 

@@ -148,14 +148,8 @@ added-back g t numbered w s new b starts true j =
 added-back g t numbered w s new b starts false j = subst (IsBack g t w) (sym j.0) (unjoined-back g t numbered w s b j.1)
 
 module _ (g : Multigraph) (t : NumberedTree) (numbered : IsNumbered g t) (w : ℕ) (s : PassState) (b : IsBack g t w s) where
-  abbrev r : IsRaised g t w s
-  r = b.raised
-
   abbrev h : ℕ
   h = b.raised.height
-
-  abbrev wt : ℕ
-  wt = (item s.items b.raised.height).low
 
   abbrev back : IsReturned b.raised.palm.last s.done s.at (at_place s.start w) b.raised.height s.items b.raised.rest
   back = back-returned g t w s b

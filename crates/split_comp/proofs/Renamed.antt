@@ -34,9 +34,6 @@ module _ (n : ℕ) (vertex : ℕ → ℕ) (apart : (x y : ℕ) → x < n → y <
         | inr q ↦ elim e.2 [ inl s ↦ (x.second, e.1, s.1 ∙ sym q, second-end x.second x refl) | inr s ↦ (x.first, e.0, s.0 ∙ sym q, first-end x.first x refl) ]
       ]
 
-  end-back : (x : Entry) → Contains entries x → (z : ℕ) → z < n → has_end (vertex z) (f x) ≡ true → has_end z x ≡ true
-  end-back x c z l h = let e = end-from x c (vertex z) h in subst (λ (k : ℕ). has_end k x ≡ true) (apart e.0 z e.1 l e.2) e.3
-
   touch-to : (s : ℕ → Bool) (z : ℕ) → Touching entries s z → (z < n) × Touching (map f entries) s (vertex z)
   touch-to s z t = let e = end-to t.entry t.within z t.end in (e.0, record { entry = f t.entry; within = contains-map f t.entry entries t.within; side = ap s (named t.entry t.within) ∙ t.side; end = e.1 })
 

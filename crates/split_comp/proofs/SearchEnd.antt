@@ -1,11 +1,11 @@
 -- The components that the pass leaves are those of the block.
-use Rattle.std.proofs.Common.{◌≡◌, ◌≢◌, ℕ, ◌+◌, ◌*◌, ◌^◌, ◌<◌, ◌≤◌, List, [], ◌∷◌, length, map, refl, sym, ap, ◌∙◌, subst, arith}
+use Rattle.std.proofs.Common.{◌≡◌, ◌≢◌, ℕ, ◌+◌, ◌*◌, ◌<◌, ◌≤◌, List, [], ◌∷◌, length, map, refl, sym, ap, ◌∙◌, subst, arith}
 use Rattle.std.proofs.lemmas.List.{length-map, append-nil, length-append}
 use Rattle.multigraph.specs.Graph.{Multigraph, edge_count, IsGraph, IsWithinLimits, numbers_below}
 use Rattle.multigraph.proofs.Below.{length-numbers_below}
 use Rattle.graph_theory.specs.Block.{IsOneBlock}
 use Rattle.palm_tree.specs.PalmTree.{IsPalmTree}
-use Rattle.pair_split.specs.Family.{Entry, IsFamily, IsPrime}
+use Rattle.pair_split.specs.Family.{Entry, IsFamily}
 use Rattle.pair_split.specs.Edges.{graph_entry, graph_family, family_skeleton}
 use Rattle.pair_split.specs.Skeleton.{IsSkeleton}
 use Rattle.pair_split.specs.Split.{IsSplit}
@@ -62,14 +62,8 @@ module _ (g : Multigraph) (t : NumberedTree) (numbered : IsNumbered g t) (s : Pa
   pub left-family : IsFamily (family_of edges)
   left-family = subst IsFamily (layer-current (state_of s.parts edges)) (state.families (length (map part_of s.parts)))
 
-  pub left-prime : IsPrime (family_of edges)
-  left-prime = subst IsPrime (sym left) p.prime
-
   left-length : length edges ≡ length s.items
   left-length = sym (length-map edges entry_of) ∙ (ap length left ∙ length-map s.items (λ x. drawn g t.vertex (entry x)))
-
-  pub left-three : 3 ≤ length edges
-  left-three = omega (arith, left-length, p.three)
 
   pub left-listed : IsListed (edge_count g) (state_of s.parts edges)
   left-listed = state-listed g (state_of s.parts edges) state
@@ -79,9 +73,6 @@ module _ (g : Multigraph) (t : NumberedTree) (numbered : IsNumbered g t) (s : Pa
     where
       entries : List StackEntry → List Entry
       entries l = map entry l
-
-  pub left-few : edge_count g + length s.parts < 2 ^ 32
-  left-few = omega (arith, p.held.few, numbered.limits.few_edges)
 
   -- what it takes to write them out
   pub left-cost : 2 * (length s.parts + entry_total s.parts + length edges) ≤ 6 * edge_count g
@@ -97,9 +88,6 @@ module _ (g : Multigraph) (t : NumberedTree) (numbered : IsNumbered g t) (s : Pa
 module _ (g : Multigraph) (graph : IsGraph g) (block : IsOneBlock g) (small : edge_count g < 3) (parts : List Finished) (edges : List NamedEdge) (none : parts ≡ []) (all : family_of edges ≡ graph_family g) where
   pub small-listed : IsListed (edge_count g) (state_of parts edges)
   small-listed = state-listed g (state_of parts edges) (start-state g graph parts edges none all)
-
-  pub small-few : edge_count g + length parts < 2 ^ 32
-  small-few = omega (arith, small, ap length none)
 
   pub small-cost : 2 * (length parts + entry_total parts + length edges) ≡ 2 * edge_count g
   small-cost = omega (arith, ap length none, ap entry_total none, length-map edges entry_of, ap length all, length-map (numbers_below (edge_count g)) (graph_entry g), length-numbers_below (edge_count g))

@@ -196,9 +196,6 @@ module _ (last : ℕ → ℕ) (done v s h : ℕ) (stack : List StackEntry) (rest
     abbrev b : ℕ
     b = c.low
 
-    r : ℕ
-    r = sound.starts.place
-
     pub ups-behind : (i : ℕ) → c.start ≤ i → i < length stack → v ≤ (item stack i).up
     ups-behind i a l = omega (arith, up, sound.least.least i a l)
 
@@ -217,9 +214,6 @@ module _ (last : ℕ → ℕ) (done v s h : ℕ) (stack : List StackEntry) (rest
       | inl e ↦ absurd (other (sym tree-b.low ∙ ap (λ (i : ℕ). (item stack i).low) e))
       | inr e ↦ omega (arith, e, tree-b.within, back.size)
     ]
-
-    pub behind-b : v < b
-    behind-b = omega (arith, stands.laid.finished sound.below.place tree-b.within tree-b.tree, tree-b.low, stands.left.ahead)
 
     side-ups : (side : ℕ → Bool) → IsCutOff (but_frond v b) stack rest c.start side → (i : ℕ) → i < length stack → side (item stack i).name ≡ true → v ≤ (item stack i).up
     side-ups side k i l t = elim (cases_lt i c.start) [ inl a ↦ absurd (both_ways (side (item stack i).name) (k.before i a l) t) | inr a ↦ ups-behind i a l ]

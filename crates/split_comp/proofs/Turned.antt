@@ -4,14 +4,14 @@ use Rattle.std.proofs.lemmas.List.{get_or_default}
 use Rattle.multigraph.specs.Graph.{Multigraph}
 use Rattle.split_comp.specs.declared.items.Dart.{Dart}
 use Rattle.split_comp.specs.Palm.{tree_dart, tree_degree, tree_parent}
-use Rattle.split_comp.specs.Pass.{NumberedTree, IsNumbered, PassState, at_place, IsPass, IsRaised, IsBack, IsPassed, IsFronted, IsTreeAdded, CanJoin, IsJoined, IsFrondAdded, IsAsFar, IsCome, IsTurned, pushed, gone_along, gone_down, gone_back, new_frond, new_tree}
+use Rattle.split_comp.specs.Pass.{NumberedTree, IsNumbered, PassState, at_place, IsPass, IsRaised, IsBack, IsPassed, IsFronted, IsTreeAdded, CanJoin, IsJoined, IsFrondAdded, IsAsFar, IsTurned, pushed, gone_along, gone_down, gone_back, new_frond, new_tree}
 use Rattle.split_comp.proofs.Entries.{length-push}
 use Rattle.split_comp.proofs.Reducing.{added-can, added-back}
 use Rattle.split_comp.proofs.Coming.{come-raised, come-passed}
 use Rattle.split_comp.proofs.Down.{down-pass}
 use Rattle.split_comp.proofs.Going.{frond-fronted}
 use Rattle.split_comp.proofs.Depth.{down-turned, frond-turned}
-use Rattle.split_comp.proofs.AsFar.{frond-far, tree-far}
+use Rattle.split_comp.proofs.AsFar.{frond-far}
 use Rattle.split_comp.proofs.Onward.{fronted-joins, fronted-added}
 
 module _ (g : Multigraph) (t : NumberedTree) (numbered : IsNumbered g t) (s : PassState) (p : IsPass g t s) (more : at_place s.gone s.at < tree_degree t.palm t.vertex s.at) (frond : (tree_dart g t.palm t.vertex s.at (at_place s.gone s.at)).tree ≡ false) where
@@ -80,9 +80,6 @@ module _ (g : Multigraph) (t : NumberedTree) (numbered : IsNumbered g t) (s : Pa
   pub come-back : (new : PassState) (joined : Bool) → IsJoined g t.vertex came new joined → IsBack g t s.at new
   come-back new joined j = added-back g t numbered s.at came new raised (λ c l. omega (arith, ((p.cuts.sound not-top).each c l).within, raised.atop.size, length-push s.items (new_tree last-dart.edge parent s.at (at_place s.start s.at)))) joined j
 
-  pub come-dart : at_place s.gone parent < tree_degree t.palm t.vertex parent
-  come-dart = (p.walk.under_way s.at not-top (omega arith, p.palm.above s.at)).0
-
   pub come-less : parent < g.vertex_count
   come-less = omega (arith, (p.palm.parent_less s.at (omega (arith, p.walk.current, p.walk.within)) not-top).0, p.walk.current, p.walk.within)
 
@@ -103,11 +100,6 @@ module _ (g : Multigraph) (t : NumberedTree) (numbered : IsNumbered g t) (s : Pa
     pub came-back : (new : PassState) → IsTreeAdded g t.vertex dart.edge v w start mid new → IsBack g t s.at new
     came-back new a = come-back new a.joined (subst (λ (m : PassState). IsJoined g t.vertex m new a.joined) came-is a.join)
 
-    pub came-there : (new : PassState) → IsTreeAdded g t.vertex dart.edge v w start mid new → IsCome v s new
-    came-there new a =
-        let f = tree-far g t.vertex dart.edge v w start mid new a in
-        record { at = f.at ∙ ap (λ (z : PassState). z.at) e; done = f.done ∙ (ap (λ (z : PassState). z.done) e ∙ here); gone = f.gone ∙ ap (λ (z : PassState). z.gone) e }
-
 -- the search comes back to the root
 module _ (g : Multigraph) (t : NumberedTree) (numbered : IsNumbered g t) (s : PassState) (p : IsPass g t s) (all : at_place s.gone s.at ≡ tree_degree t.palm t.vertex s.at) (not-top : s.at ≢ 0) (outer : tree_parent t.palm t.vertex s.at ≡ 0)
     (v k w start : ℕ) (up : v ≡ tree_parent t.palm t.vertex s.at) (here : w ≡ s.at) (read : k ≡ slice_index_or s.gone v k) (from : start ≡ slice_index_or s.start w start) (dart : Dart) (is : dart ≡ tree_dart g t.palm t.vertex v k) (mid : PassState) (e : mid ≡ gone_back (gone_along s v) v w) where
@@ -120,10 +112,3 @@ module _ (g : Multigraph) (t : NumberedTree) (numbered : IsNumbered g t) (s : Pa
   pub came-home : (new : PassState) → new ≡ pushed mid (new_tree dart.edge v w start) → IsPassed g t new
   came-home new q = subst (IsPassed g t) (sym (q ∙ ((λ i. pushed (e i) (new_tree (is i).edge v w start)) ∙ (λ i. pushed (gone_back (gone_along s (up i)) (up i) (here i)) (new_tree (tree_dart g t.palm t.vertex (up i) (root-next i)).edge (up i) (here i) (root-starts i))))))
       (come-passed g t numbered s p all not-top outer)
-
-  pub came-root : (new : PassState) → new ≡ pushed mid (new_tree dart.edge v w start) → IsCome v s new
-  came-root new q = record {
-    at = ap (λ (z : PassState). z.at) q ∙ ap (λ (z : PassState). z.at) e;
-    done = ap (λ (z : PassState). z.done) q ∙ (ap (λ (z : PassState). z.done) e ∙ here);
-    gone = ap (λ (z : PassState). z.gone) q ∙ ap (λ (z : PassState). z.gone) e;
-  }

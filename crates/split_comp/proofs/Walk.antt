@@ -22,10 +22,6 @@ module _ (n m : ℕ) (parent degree : ℕ → ℕ) (dart : ℕ → ℕ → Dart)
   abbrev last : ℕ → ℕ
   last = palm.last
 
-  -- the path to the root
-  root-path : (v : ℕ) → v < n → IsOnPath last v 0
-  root-path v l = (omega arith, omega (arith, l, palm.root))
-
   -- what is on the path to a vertex is in range
   on-path-in : (v x : ℕ) → v < n → IsOnPath last v x → x < n
   on-path-in v x l p = omega (arith, l, p.0)

@@ -1,5 +1,5 @@
 -- The pass goes back to a parent: all that it has to know of it, and what it has become.
-use Rattle.std.proofs.Common.{◌≡◌, ◌≢◌, ℕ, ◌+◌, ◌<◌, ◌≤◌, inl, inr, Result, Ok, Err, IfOk, slice_index, refl, sym, ap, subst, arith}
+use Rattle.std.proofs.Common.{◌≡◌, ◌≢◌, ℕ, ◌+◌, ◌<◌, ◌≤◌, inl, inr, Result, Ok, Err, IfOk, slice_index, refl, sym, subst, arith}
 use Rattle.permutations.specs.Members.{is_member}
 use Rattle.permutations.proofs.Count.{count-within}
 use Rattle.permutations.proofs.Arrangements.{count-list}
@@ -28,13 +28,6 @@ degree-few g t numbered x l =
     )
 
 module _ (g : Multigraph) (t : NumberedTree) (numbered : IsNumbered g t) (s : PassState) (p : IsPass g t s) where
-  -- all darts of the vertex have been gone along, where none is next
-  pub all-gone : tree_degree t.palm t.vertex s.at ≤ at_place s.gone s.at → at_place s.gone s.at ≡ tree_degree t.palm t.vertex s.at
-  all-gone l = omega (arith, l, p.walk.gone_within s.at (omega (arith, p.walk.current, p.walk.within)))
-
-  pub not-home : tree_degree t.palm t.vertex s.at ≤ at_place s.gone s.at → s.at ≢ 0
-  not-home l z = omega (arith, l, p.going z, ap (at_place s.gone) z, ap (tree_degree t.palm t.vertex) z)
-
   module _ (all : at_place s.gone s.at ≡ tree_degree t.palm t.vertex s.at) (not-root : s.at ≢ 0) (v : ℕ) (up : v ≡ tree_parent t.palm t.vertex s.at) where
     pub back-within : v < g.vertex_count
     back-within = omega (arith, up, (parent-less g t s p not-root).1)

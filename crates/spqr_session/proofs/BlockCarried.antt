@@ -1,7 +1,7 @@
 -- Commands that name a block: the codes of their ladders, that they do one thing, and what they leave.
-use Rattle.std.proofs.Common.{◌≡◌, ℕ, ◌<◌, ◌≤◌, Bool, true, false, not, List, [], ◌∷◌, ◌++◌, length, map, slice_index_or, Option, None, Some, Result, IfOk, inl, inr, refl, sym, ap, ◌∙◌, subst, arith}
+use Rattle.std.proofs.Common.{◌≡◌, ℕ, ◌<◌, Bool, true, false, not, List, [], ◌∷◌, ◌++◌, length, map, slice_index_or, Option, None, Some, Result, IfOk, inl, inr, refl, sym, ap, ◌∙◌, subst, arith}
 use Rattle.std.specs.Global.{Vec}
-use Rattle.std.proofs.lemmas.Bool.{cases_Bool, ltb-true, lt-ltb, true≢false}
+use Rattle.std.proofs.lemmas.Bool.{ltb-true, lt-ltb, true≢false}
 use Rattle.std.proofs.lemmas.List.{length-map}
 use Rattle.spqr_session.specs.Trees.{BlockTree, tree_at}
 use Rattle.spqr_session.specs.State.{Embedding, State, entry_at}
@@ -27,12 +27,6 @@ in-block trees b e = ltb-true b (length trees) (held (is_block trees b) e)
 
 pub block-in : (trees : List BlockTree) (b : ℕ) → b < length trees → not (is_block trees b) ≡ false
 block-in trees b l = ap not (lt-ltb b (length trees) l)
-
-pub block-out : (trees : List BlockTree) (b : ℕ) → length trees ≤ b → not (is_block trees b) ≡ true
-block-out trees b l = elim (cases_Bool (is_block trees b)) [
-  | inl t ↦ absurd (omega (arith, l, ltb-true b (length trees) t))
-  | inr f ↦ ap not f
-]
 
 -- a planar block has an entry
 pub planar-entry : (o : Option Embedding) → not (is_planar o) ≡ false → (e : Embedding) × (o ≡ Some e)
@@ -74,10 +68,6 @@ module _ (trees : List BlockTree) (b : ℕ) (s : State) where
   entry-block e l p =
       rung-missed NoBlock (not (is_block trees b)) ((NonPlanar, not (is_planar (entry_at s.present b))) ∷ []) None (block-in trees b l)
       (rung-missed NonPlanar (not (is_planar (entry_at s.present b))) [] None (ap (λ (o : Option Embedding). not (is_planar o)) p) refl)
-
-  -- code 1 is the first where there is no such block, code 5 where it has no entry
-  pub no-block : (rest : Ladder) → length trees ≤ b → first_code (block_ladder trees b s ++ rest) ≡ Some NoBlock
-  no-block rest l = rung-hit NoBlock (not (is_block trees b)) ((NonPlanar, not (is_planar (entry_at s.present b))) ∷ rest) (block-out trees b l)
 
   pub no-entry : (rest : Ladder) → b < length trees → entry_at s.present b ≡ None → first_code (block_ladder trees b s ++ rest) ≡ Some NonPlanar
   no-entry rest l p =

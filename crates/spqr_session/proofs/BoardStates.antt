@@ -83,7 +83,3 @@ module _ (on : Bool) (board : BoardView) (b k : ℕ) where
 pub nothing-there : (answer none : Bool) → answer ≡ not none → answer ≡ false → none ≡ true
 nothing-there answer true e n = refl
 nothing-there answer false e n = absurd (true≢false (sym e ∙ n))
-
-pub something-there : (answer none : Bool) → answer ≡ not none → answer ≡ true → none ≡ false
-something-there answer false e n = refl
-something-there answer true e n = absurd (true≢false (sym n ∙ e))

@@ -67,17 +67,6 @@ module _ (trees : List BlockTree) where
           (subst (λ (l : List Step). IsBetween (redone trees) (undone trees) (steps_before old) kept l) (on-after old new s w) h.between));
     }
 
-    -- the step that is taken back leads on again, and the other way
-    pub returned : WentBack old s new → redone trees s (undone trees s kept) ≡ kept
-    returned w =
-        let b : IsBetween (redone trees) (undone trees) (s ∷ steps_before new) kept (steps_after old) = subst (λ (l : List Step). IsBetween (redone trees) (undone trees) l kept (steps_after old)) (back-before old new s w) h.between in
-        b.before_returns.0
-
-    pub repeated : WentOn old s new → undone trees s (redone trees s kept) ≡ kept
-    repeated w =
-        let b : IsBetween (redone trees) (undone trees) (steps_before old) kept (s ∷ steps_after new) = subst (λ (l : List Step). IsBetween (redone trees) (undone trees) (steps_before old) kept l) (on-after old new s w) h.between in
-        b.after_returns.0
-
     -- a step is noted
     noted-long : IsAdded old new s → length (take old.cursor old.steps ++ s ∷ []) ≤ old.cursor + 1
     noted-long w = omega (arith, length-append (take old.cursor old.steps) (s ∷ []), length-take-le old.cursor old.steps h.cursor)

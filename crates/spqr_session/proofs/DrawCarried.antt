@@ -1,13 +1,12 @@
--- `draw`: there is an answer, the state stays, and what is found is an answer.
-use Rattle.std.proofs.Common.{◌≡◌, ◌≢◌, ℕ, ◌<◌, ◌≤◌, Bool, true, false, List, [], ◌∷◌, slice_index, Option, None, Some, refl, sym, ap₂, ◌∙◌, subst, arith}
+-- `draw`: there is an answer, the state stays, and the parallel edges that are found are the least pair.
+use Rattle.std.proofs.Common.{◌≡◌, ◌≢◌, ℕ, ◌<◌, ◌≤◌, Bool, true, List, [], slice_index, refl, sym, ◌∙◌, subst, arith}
 use Rattle.permutations.proofs.Search.{least-below, least-passes}
 use Rattle.multigraph.specs.Graph.{Multigraph, edge_count, ends_of, IsGraph}
 use Rattle.multigraph.specs.Part.{GraphPart}
 use Rattle.graph_theory.specs.Connected.{IsConnected}
 use Rattle.graph_theory.proofs.Connected.{block-connected}
-use Rattle.faces.specs.Euler.{IsPlaneSystem}
 use Rattle.skel_embed.specs.Block.{BlockState}
-use Rattle.grid_drawing.specs.Grid.{IsGridDrawing, IsDrawRefusal}
+use Rattle.grid_drawing.specs.Grid.{IsDrawRefusal}
 use Rattle.grid_drawing.specs.declared.drawing.DrawFault.{DrawFault}
 use Rattle.grid_drawing.specs.declared.drawing.DrawFault.TheVariants as faults
 use Rattle.grid_drawing.specs.Parallel.{is_later, has_later, has_parallel, first_parallel, second_parallel}
@@ -17,16 +16,14 @@ use Rattle.spqr_session.specs.Trees.{tree_at}
 use Rattle.spqr_session.specs.Setting.{Setting, IsSetting}
 use Rattle.spqr_session.specs.State.{State, IsState}
 use Rattle.spqr_session.specs.Embedded.{BlockView}
-use Rattle.spqr_session.specs.Codes.{code_text, first_code}
-use Rattle.spqr_session.specs.BlockCodes.{Answered, TellsBlock}
 use Rattle.spqr_session.specs.Commands.Draw.{parallel_codes, IsDrawingAnswer, DrawStep}
 use Rattle.spqr_session.specs.declared.code.Code.{Code}
 use Rattle.spqr_session.specs.declared.code.Code.TheVariants.{Parallel}
 use Rattle.spqr_session.proofs.BlockCarried.{read-answers, read-stays}
 use Rattle.spqr_session.proofs.Changes.{entry-right}
 use Rattle.spqr_session.proofs.SettingTrees.{setting-tree, setting-numbered}
-use Rattle.spqr_session.proofs.Ladders.{rung-hit, rung-missed, rung-none}
-use Rattle.spqr_session.proofs.Planes.{seen_embedding, SeenPlane, told-entry}
+use Rattle.spqr_session.proofs.Ladders.{rung-none}
+use Rattle.spqr_session.proofs.Planes.{SeenPlane}
 
 -- the state stays
 pub draw-stays : (setting : Setting) (b : ℕ) (s : State) (text : List ℕ) (after : State) → DrawStep setting b s text after → after ≡ s
@@ -70,23 +67,8 @@ module _ (v : BlockView) (p : BlockState) (seen : SeenPlane v p) where
   pub seen-two : 2 ≤ p.graph.vertex_count
   seen-two = subst (λ (g : Multigraph). 2 ≤ g.vertex_count) (sym seen.graph) (let tree = seen.tree in let block = tree.block in two-vertices v.tree.part.graph tree.graph block.has_edge)
 
-  pub seen-system : IsPlaneSystem p.graph p.rotation
-  seen-system = subst (λ (g : Multigraph). IsPlaneSystem g p.rotation) (sym seen.graph) seen.right.0
-
-  -- the code of the least pair of parallel edges, and whether it applies
-  abbrev least_pair : Code
-  least_pair = Parallel (slice_index v.tree.part.edges (first_parallel v.tree.part.graph)) (slice_index v.tree.part.edges (second_parallel v.tree.part.graph))
-
   abbrev are_parallel : Bool
   are_parallel = has_parallel v.tree.part.graph
-
-  -- the lines of a drawing are an answer, where no edges are parallel
-  pub drawing-told : (b : ℕ) (points : List (ℕ × ℕ)) (text : List ℕ) → IsGridDrawing p.graph p.rotation points → has_parallel p.graph ≡ false → text ≡ draw_text v.tree.part b points → TellsBlock v.tree v.entry parallel_codes (IsDrawingAnswer b) text
-  drawing-told b points text d simple e = told-entry v p seen parallel_codes (IsDrawingAnswer b) text
-      (subst (λ (c : Option Code). Answered c text (IsDrawingAnswer b v.tree (seen_embedding p) text)) (sym none) (points, subst (λ (g : Multigraph). IsGridDrawing g p.rotation points) seen.graph d, e))
-    where
-      none : first_code ((least_pair, are_parallel) ∷ []) ≡ None
-      none = rung-missed least_pair are_parallel [] None (subst (λ (g : Multigraph). has_parallel g ≡ false) seen.graph simple) refl
 
   -- the edges that are found are the least pair
   abbrev pub IsPair : ℕ → ℕ → Type 0
@@ -100,13 +82,3 @@ module _ (v : BlockView) (p : BlockState) (seen : SeenPlane v p) where
     subst (λ (k : ℕ). k < edge_count v.tree.part.graph) (sym f.1) (first-within v.tree.part.graph f.0),
     subst (λ (k : ℕ). k < edge_count v.tree.part.graph) (sym f.2) (second-within v.tree.part.graph f.0),
   )
-
-  -- and their line is an answer
-  pub parallel-told : (b : ℕ) (part : GraphPart) (i j x y : ℕ) (text : List ℕ) → part ≡ v.tree.part → IsPair i j → x ≡ slice_index part.edges i → y ≡ slice_index part.edges j → text ≡ code_text (Parallel x y)
-      → TellsBlock v.tree v.entry parallel_codes (IsDrawingAnswer b) text
-  parallel-told b part i j x y text q f first second e = told-entry v p seen parallel_codes (IsDrawingAnswer b) text
-      (subst (λ (c : Option Code). Answered c text (IsDrawingAnswer b v.tree (seen_embedding p) text)) (sym hit)
-      (e ∙ ap₂ (λ (i j : ℕ). code_text (Parallel i j)) (first ∙ ap₂ (λ (r : GraphPart) (k : ℕ). slice_index r.edges k) q f.1) (second ∙ ap₂ (λ (r : GraphPart) (k : ℕ). slice_index r.edges k) q f.2)))
-    where
-      hit : first_code ((least_pair, are_parallel) ∷ []) ≡ Some least_pair
-      hit = rung-hit least_pair are_parallel [] f.0

@@ -1,6 +1,6 @@
 -- The line of a rotation system, from that of another one: the entries by vertices, their places, and one entry after the other written anew.
-use Rattle.std.proofs.Common.{◌≡◌, ℕ, zero, suc, ◌+◌, ◌/◌, ◌<◌, ◌≤◌, Bool, true, false, List, [], ◌∷◌, ◌++◌, length, drop, map, slice_index, set, codes, decimal, sum_by, IsPermutation, inl, inr, refl, sym, ap, ap₂, ◌∙◌, subst, arith, append_assoc, length-append, add-one}
-use Rattle.std.proofs.lemmas.Bool.{cases_Bool, cases_lt, cases_eq, both_ways}
+use Rattle.std.proofs.Common.{◌≡◌, ℕ, zero, suc, ◌+◌, ◌/◌, ◌<◌, ◌≤◌, true, List, [], ◌∷◌, ◌++◌, length, drop, map, slice_index, set, codes, decimal, sum_by, IsPermutation, inl, inr, refl, sym, ap, ap₂, ◌∙◌, arith, append_assoc, length-append, add-one}
+use Rattle.std.proofs.lemmas.Bool.{cases_Bool, cases_lt, cases_eq}
 use Rattle.std.proofs.lemmas.List.{append-nil, drop_all, length-map, take_at, drop_at, get_or-set_same, get_or-set_other}
 use Rattle.std.proofs.lemmas.List.Sums.{sum_by-cons}
 use Rattle.std.proofs.lemmas.List.Sorted.{sum_by-IsPermutation, IsPermutation-map}
@@ -13,13 +13,11 @@ use Rattle.permutations.proofs.CyclicSame.{same-lists}
 use Rattle.permutations.proofs.Arrangements.{permutation-member, contains-from_member}
 use Rattle.multigraph.specs.Graph.{Multigraph, edge_count, incident_edges, is_end}
 use Rattle.multigraph.specs.Darts.{tail, dart_count, dart_from}
-use Rattle.multigraph.specs.Marks.{is_marked}
 use Rattle.multigraph.specs.Part.{GraphPart}
 use Rattle.multigraph.proofs.DartEnds.{dart_from-edge, dart_from-below, dart_from-tail}
 use Rattle.multigraph.proofs.Incident.{incident-edge, incident-end}
 use Rattle.rotations.specs.Rotation.{order_at, IsRotationSystem}
 use Rattle.faces.proofs.DartLemmas.{order-distinct, member-incident}
-use Rattle.faces.proofs.Looks.{marked-here, marked-elsewhere}
 use Rattle.spqr_script.specs.Text.{spaced_numbers, line_end}
 use Rattle.spqr_script.specs.Answers.Rotation.{entries_text, outer_entries, rotation_text}
 use Rattle.spqr_script.proofs.RotationText.{entries-from}
@@ -82,13 +80,6 @@ noted-more d old new f within is before x l = ap (λ (xs : List ℕ). slice_inde
 pub noted-due : (d : ℕ) (first old new : List ℕ) (y : ℕ) → new ≡ set old d y → ((x : ℕ) → d ≤ x → slice_index old x ≡ slice_index first x) → (x : ℕ) → d + 1 ≤ x → slice_index new x ≡ slice_index first x
 noted-due d first old new y is before x l =
     ap (λ (xs : List ℕ). slice_index xs x) is ∙ get_or-set_other old d x y 0 (λ e. absurd (omega (arith, l, e))) ∙ before x (omega (arith, l))
-
--- a mark more takes none away
-pub mark-added : (marks : List Bool) (v x : ℕ) → v < length marks → is_marked (set marks v true) x ≡ false → is_marked marks x ≡ false
-mark-added marks v x within none = elim (cases_eq v x) [
-  | inl e ↦ absurd (both_ways (is_marked (set marks v true) x) none (subst (λ (y : ℕ). is_marked (set marks v true) y ≡ true) e (marked-here marks v within)))
-  | inr n ↦ sym (marked-elsewhere marks v x within n) ∙ none
-]
 
 module _ (part : GraphPart) where
   -- the entries from vertex v on, as they are in a line

@@ -8,10 +8,6 @@ use Rattle.undo_log.specs.declared.step.CutChange.{CutChange}
 use Rattle.spqr_session.specs.History.{lists_set, lists_cleared, list_after, list_before}
 use Rattle.spqr_session.specs.Board.{removal, clearing, clearings, Clears}
 
--- the list at a vertex
-abbrev at : List (Option (List ℕ)) → ℕ → Option (List ℕ)
-at lists v = slice_index_or lists v None
-
 -- no list is set where there is none
 pub set-none : (lists : List (Option (List ℕ))) (v : ℕ) → slice_index_or lists v None ≡ None → slice_set lists v None ≡ lists
 set-none lists v e = ap (slice_set lists v) (sym e) ∙ set-get_or lists v None

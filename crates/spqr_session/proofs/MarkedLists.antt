@@ -113,7 +113,3 @@ pub marked-after : (views seen other : List BlockView) (lists new_lists : List (
 marked-after views seen other lists new_lists ps given marked e f g s h =
     subst (λ (ts : List BlockTree). IsMarked ts new_lists marked) (ap (map view_tree) e ∙ sym g)
     (subst (λ (ls : List (Option (List ℕ))). IsMarked (map view_tree seen) ls marked) (ap (λ (p : List (ℕ × Option (List ℕ))). lists_set p lists) f ∙ sym s) h)
-
--- marks that suffice before
-pub marked-before : (views seen : List BlockView) (lists : List (Option (List ℕ))) (marked : MarkedVertices) → seen ≡ views → IsMarked (map view_tree seen) lists marked → IsMarked (map view_tree views) lists marked
-marked-before views seen lists marked e h = subst (λ (l : List BlockView). IsMarked (map view_tree l) lists marked) e h

@@ -4,7 +4,6 @@ use Rattle.permutations.specs.Count.{some, least}
 use Rattle.permutations.proofs.Search.{least-is, some-from, none-some}
 use Rattle.pair_split.specs.Tutte.{Node, node_at}
 use Rattle.skel_embed.specs.Block.{BlockState, lock_at}
-use Rattle.embed_moves.specs.Made.{IsLeastHeld, NoneHeld}
 use Rattle.embed_moves.specs.Made as made
 use Rattle.spqr_session.specs.State.{Embedding}
 use Rattle.spqr_session.specs.Embedded.{BlockView}

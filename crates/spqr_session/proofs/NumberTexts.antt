@@ -65,15 +65,6 @@ numbers-text (e ∷ es) =
     let w = decimal-some e in
     ap (λ (l : List ℕ). with_numbers l es) w.2 ∙ numbers-spaced w.0 w.1 es ∙ ap (λ (l : List ℕ). l ++ spaced_numbers es) (sym w.2)
 
--- a number more
-pub number-first : (text : List ℕ) (e : ℕ) → length text ≡ 0 → with_number text e ≡ text ++ decimal e
-number-first [] e h = refl
-number-first (c ∷ text) e h = absurd (omega (arith, h))
-
-pub number-later : (text : List ℕ) (e : ℕ) → length text ≢ 0 → with_number text e ≡ (text ++ codes " ") ++ decimal e
-number-later [] e h = absurd (h refl)
-number-later (c ∷ text) e h = refl
-
 -- the text at a place with numbers more
 pub put-text : (texts : List (Vec ℕ)) (v : ℕ) (old new : Vec ℕ) (more : List ℕ) → v < length texts → old ≡ get_or texts v old → new.items ≡ with_numbers old.items more → bytes_of (set texts v new) ≡ set (bytes_of texts) v (with_numbers (slice_index_or (bytes_of texts) v []) more)
 put-text texts v old new more l is e =
@@ -129,10 +120,6 @@ module _ (tree : BlockTree) (o : Option Embedding) where
   below-no i v l = cond-false (nat_lt (place_of tree.part.vertices v) i) (block_numbers tree o v) [] (le-ltb (place_of tree.part.vertices v) i l)
 
 module _ (tree : BlockTree) (o : Option Embedding) (numbered : IsNumbered tree.part) (old : List (List ℕ)) where
-  -- no vertex yet
-  pub none-added : AreExtended (added_below tree o 0) old old
-  none-added = record { long = refl; each = λ v l. ap (with_numbers (slice_index_or old v [])) (sym (below-no tree o 0 v (omega arith))) }
-
   -- one vertex more
   pub added-more : (i : ℕ) (now new : List (List ℕ)) → i < length tree.part.vertices → slice_index tree.part.vertices i < length old → AreExtended (added_below tree o i) old now
       → new ≡ set now (slice_index tree.part.vertices i) (with_numbers (slice_index_or now (slice_index tree.part.vertices i) []) (own_numbers tree o i))

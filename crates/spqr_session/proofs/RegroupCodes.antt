@@ -58,9 +58,6 @@ module _ (setting : Setting) (v : ℕ) (edges : List ℕ) (s : State) where
   abbrev planar : Bool
   planar = is_planar_component setting (component_number setting v)
 
-  abbrev applies : Code → Type 0
-  applies = RegroupApplies setting v edges s
-
   -- which codes may apply, and why
   abbrev pub RegroupReason : Code → Type 0
   RegroupReason code =

@@ -1,7 +1,7 @@
 -- The lists of a start, given to the blocks of their edges: one edge more, one vertex more, and what the blocks have at the end.
 use Rattle.std.proofs.Common.{◌≡◌, ◌≢◌, ℕ, ◌+◌, ◌-◌, ◌<◌, ◌==◌, Bool, true, false, cond, List, [], ◌∷◌, ◌++◌, length, map, filter, get_or, set, take, slice_index, slice_index_or, All, inl, inr, refl, sym, ap, ◌∙◌, subst, arith, append-nil}
 use Rattle.std.proofs.lemmas.Bool.{cases_Bool, cases_eq, both_ways, true≢false, eq-eqb, ne_eqb, eqb-true, false_from_ne_true}
-use Rattle.std.proofs.lemmas.List.{get_or-set_same, get_or-set_other, length-set, length-map, get_or-map, map-append, set-get_or, take_more}
+use Rattle.std.proofs.lemmas.List.{get_or-set_same, get_or-set_other, length-set, length-map, get_or-map, map-append, take_more}
 use Rattle.std.proofs.lemmas.List.Elements.{filter-append, All-from_get_or}
 use Rattle.permutations.specs.Members.{is_member}
 use Rattle.permutations.proofs.Members.{member-cases, member-append_right, member-append_cases, no_member-append_left, member-head}
@@ -112,10 +112,6 @@ some-push : (l : List ℕ) (x : ℕ) → has_some (l ++ x ∷ []) ≡ true
 some-push [] x = refl
 some-push (y ∷ l) x = refl
 
-none-nil : (l : List ℕ) → has_some l ≡ false → l ≡ []
-none-nil [] h = refl
-none-nil (y ∷ l) h = absurd (true≢false h)
-
 pub some-member : (l : List ℕ) (x : ℕ) → is_member x l ≡ true → has_some l ≡ true
 some-member [] x m = absurd (true≢false (sym m))
 some-member (y ∷ l) x m = refl
@@ -130,20 +126,6 @@ entry-some v l h = ap (λ (c : Bool). cond c ((v, l) ∷ []) []) h
 
 pub entry-none : (v : ℕ) (l : List ℕ) → has_some l ≡ false → entry_of v l ≡ []
 entry-none v l h = ap (λ (c : Bool). cond c ((v, l) ∷ []) []) h
-
--- where there are no edges nothing is added
-pub added-none : (lists : List (List (ℕ × List ℕ))) (b v : ℕ) (edges : List ℕ) → length edges ≡ 0 → lists ≡ set lists b (slice_index_or lists b [] ++ entry_of v edges)
-added-none lists b v [] h = sym (ap (set lists b) (append-nil (slice_index_or lists b [])) ∙ set-get_or lists b [])
-added-none lists b v (e ∷ edges) h = absurd (omega (arith, h))
-
--- where there are some the entry is
-pub added-some : (lists : List (List (ℕ × List ℕ))) (b v : ℕ) (edges : List ℕ) → length edges ≢ 0 → set lists b (slice_index_or lists b [] ++ (v, edges) ∷ []) ≡ set lists b (slice_index_or lists b [] ++ entry_of v edges)
-added-some lists b v [] h = absurd (h refl)
-added-some lists b v (e ∷ edges) h = refl
-
-pub some-from : (edges : List ℕ) → length edges ≢ 0 → has_some edges ≡ true
-some-from [] h = absurd (h refl)
-some-from (e ∷ edges) h = refl
 
 module _ (table edges : List ℕ) (v total : ℕ) (before : List (List (ℕ × List ℕ))) where
   -- one edge more: its block's edges are moved, if they were not before

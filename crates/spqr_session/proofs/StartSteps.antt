@@ -3,35 +3,23 @@ use Rattle.std.proofs.Common.{◌≡◌, ℕ, ◌+◌, ◌<◌, Bool, false, Lis
 use Rattle.std.proofs.lemmas.Bool.{cases_eq, cases_lt}
 use Rattle.std.proofs.lemmas.List.{get_or_default, length-set, get_or-set_same, get_or-set_other, get_or-replicate, get_or_past, length-replicate}
 use Rattle.multigraph.specs.Graph.{Multigraph, IsGraph}
-use Rattle.multigraph.specs.Part.{GraphPart}
 use Rattle.blocks.specs.Blocks.{BlockStructure, AreBlocks, IsBlockStructure, block_at}
 use Rattle.blocks.proofs.BlockParts.{block-edges_in}
 use Rattle.kuratowski.specs.declared.subdivision.Subdivision.{Subdivision}
 use Rattle.gml_graph.specs.Named.{NamedGraph, ArrangeEdges, IsNamed}
-use Rattle.skel_embed.specs.Block.{BlockState, lock_at}
-use Rattle.skel_embed.specs.Taken.{IsTakeRefusal}
-use Rattle.skel_embed.specs.declared.planes.Outcome.TheVariants.{Plane}
-use Rattle.skel_embed.specs.declared.taking.TakeFault.{TakeFault}
-use Rattle.skel_embed.specs.declared.taking.TakeFault.TheVariants.{BadRotation, NotGenusZero, Locked, Memory}
+use Rattle.skel_embed.specs.Block.{lock_at}
 use Rattle.spqr_session.specs.Trees.{BlockTree, IsBlockTree}
 use Rattle.spqr_session.specs.Certificates.{IsCertificate}
 use Rattle.spqr_session.specs.Start.{start_entries, IsBadStart, IsStartFault, IsStartRefusal}
 use Rattle.spqr_session.specs.State.{Embedding, IsStartEntry}
-use Rattle.spqr_session.specs.Embedded.{BlockView, view_at, no_view, block_view, entry_lock, IsStartBlock, AreStartBlocks}
-use Rattle.spqr_session.specs.Starting.{AreStartLists, AreStartedBelow, IsEntryTaken, IsBlockTaken, IsBlockRefusal, IsReadyFor, IsGenusRefusal}
+use Rattle.spqr_session.specs.Embedded.{BlockView, view_at, no_view, entry_lock, IsStartBlock, AreStartBlocks}
+use Rattle.spqr_session.specs.Starting.{AreStartLists, AreStartedBelow, IsEntryTaken, IsBlockTaken, IsReadyFor, IsGenusRefusal}
 use Rattle.spqr_session.specs.declared.fault.StartFault.{StartFault}
 use Rattle.spqr_session.specs.declared.fault.StartFault.TheVariants.{StartGenus, Memory as OutOfMemory}
 use Rattle.spqr_session.proofs.StartLists.{starts-arranged}
 use Rattle.spqr_session.proofs.StartFaults.{started-not_bad}
 
 -- ---- one block
-
--- what the block says of a refusal
-pub refused-view : (part : GraphPart) (entries : List (ℕ × List ℕ)) (p : BlockState) (fault : TakeFault) → IsTakeRefusal p part entries fault → IsBlockRefusal entries (block_view part (Plane p)) fault
-refused-view part entries p (BadRotation v) h = h
-refused-view part entries p (NotGenusZero v e f) h = (refl, h)
-refused-view part entries p (Locked k) h = let l = h.least in l.locked
-refused-view part entries p Memory h = tt
 
 -- ---- a block of a session
 

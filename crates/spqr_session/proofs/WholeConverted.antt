@@ -23,9 +23,6 @@ module _ (setting : Setting) (c : ℕ) (entries : List (ℕ × List ℕ)) (s : S
   abbrev does : State → List ℕ → State → Type 0
   does = ChangesComponent setting c (IsWholeConverted setting c entries s.present)
 
-  Answer : Type 0
-  Answer = (text : List ℕ) × (after : State) × ConvertWholeStep setting c entries s text after
-
   refused : (code : Code) → IsLowest applies code → (text : List ℕ) × (after : State) × ConvertWholeStep setting c entries s text after
   refused code lowest = (code_text code, s, inl (record { code = code; lowest = lowest; line = refl; stays = refl }))
 

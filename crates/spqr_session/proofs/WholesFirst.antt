@@ -30,9 +30,6 @@ pub record AreFirstSet (old : CutState) (block : ℕ → BlockInPlane) (new : Cu
   pub count : length new.lists ≡ length old.lists
   pub done : (j : ℕ) → j < n → slice_index_or new.lists j [] ≡ first_around old.component block j
 
-pub first-begins : (old new : CutState) (block : ℕ → BlockInPlane) → new ≡ old → AreFirstSet old block new 0
-first-begins old new block e = record { component = ap (λ (z : CutState). z.component) e; count = ap (λ (z : CutState). length z.lists) e; done = λ j l. absurd (omega (arith, l)) }
-
 pub first-more : (old now new : CutState) (block : ℕ → BlockInPlane) (i : ℕ) → length old.lists ≡ length old.component.cuts → i < length old.component.cuts → AreFirstSet old block now i
     → new ≡ record now { lists = slice_set now.lists i (first_around now.component block i) } → AreFirstSet old block new (i + 1)
 first-more old now new block i long l h e = record {

@@ -8,7 +8,6 @@ use Rattle.permutations.specs.Members.{is_member, place_of}
 use Rattle.multigraph.specs.Part.{GraphPart, Rises}
 use Rattle.blocks.specs.Blocks.{block_at}
 use Rattle.arrangements.proofs.Lists.{all-passes, passes-all}
-use Rattle.pair_split.specs.Tutte.{Node}
 use Rattle.skel_embed.specs.Block.{BlockState}
 use Rattle.skel_embed.specs.Nonplanar.{Refused}
 use Rattle.skel_embed.specs.declared.planes.Outcome.{Outcome}

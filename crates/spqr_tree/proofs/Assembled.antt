@@ -17,7 +17,6 @@ use Rattle.pair_split.specs.declared.components.What.{What}
 use Rattle.pair_split.specs.declared.components.What.TheVariants.{Real, Link}
 use Rattle.pair_split.specs.declared.components.Piece.{Piece}
 use Rattle.pair_split.specs.declared.components.Comp.{Comp}
-use Rattle.pair_split.specs.declared.components.Item.{Item}
 use Rattle.pair_split.proofs.Links.{no_piece, stands-in}
 use Rattle.pair_split.proofs.TreeSides.{link-from}
 use Rattle.pair_split.proofs.Subtrees.{link-in}
@@ -105,9 +104,6 @@ module _ (g : Multigraph) (comps : List Comp) (ranks : List Rank) (a : IsArrange
       let c : is_before (rank_at ranks k).0 (rank_at ranks (k + suc (j - (k + 1)))).0 ≡ true = before-chain (λ i. (rank_at ranks i).0) (length comps) a.rise k (j - (k + 1)) (omega (arith, l, in-comps j m)) in
       subst (λ (z : List ℕ). is_before z (node_at nodes j).vertices ≡ true) (sym (n.each k (omega (arith, l, in-comps j m))).vertices)
       (subst (λ (z : List ℕ). is_before (rank_at ranks k).0 z ≡ true) (sym (n.each j (in-comps j m)).vertices) (subst (λ z. is_before (rank_at ranks k).0 (rank_at ranks z).0 ≡ true) d c))
-
-  no_item : Item
-  no_item = record { key = 0; a = 0; b = 0; what = Real 0 }
 
   -- an item of a node as a piece
   pub item-is : (k i : ℕ) → item_at (components nodes) k i ≡ piece_of (node_item nodes k i)

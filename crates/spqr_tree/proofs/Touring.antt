@@ -289,9 +289,6 @@ module _ (g : Multigraph) (nodes : List Node) (t : IsTutte g nodes) (few : 0 < e
         inside-up : p < length nodes
         inside-up = link-within g nodes t few s.at p (link-to g nodes t few s.at 0 p (first-in g nodes t few s.at q.here) h)
 
-        differs : p ≢ s.at
-        differs e = omega (arith, link-once g nodes t few s.at 0 (above.0 + 1) s.at (first-in g nodes t few s.at q.here) (subst (λ z. above.0 + 1 < item_count nodes z) e above.1) (h ∙ ap Link e) (subst (λ z. what_at nodes z (above.0 + 1) ≡ Link s.at) e above.2))
-
         entered : above.0 + 1 ≡ bound_count s.bounds p
         entered = elim (cases_lt (above.0 + 1) (bound_count s.bounds p)) [
           | inl b ↦ absurd ((n.whole p above.0 s.at inside-up b above.2).1 refl)

@@ -73,10 +73,6 @@ module _ (m : ℕ) (h : Multigraph) (next previous : ℕ → ℕ) (t : IsTriangu
   less-apart : (d e : ℕ) → (P d).0 < (P e).0 → tail h d ≡ tail h e → ⊥
   less-apart d e l q = omega (arith, l, ap (λ (u : ℕ). (at u).0) q)
 
-  -- a contour dart with the darts before and after it
-  cut-on : (k : List ℕ) (y : ℕ) (l : List ℕ) → contour ≡ k ++ y ∷ l → (y < 2 * m) × (stays_dart h stays y ≡ true)
-  cut-on k y l e = on-contour y (ap (is_member y) e ∙ member-append_right y k (y ∷ l) (member-head y l))
-
   along : (k l : List ℕ) → contour ≡ k ++ l → Successive (λ x y. on (twin y) ≡ x) l
   along k l e = chain-from (λ x y. on (twin y) ≡ x) k l (subst (Successive (λ x y. on (twin y) ≡ x)) e c.along)
 

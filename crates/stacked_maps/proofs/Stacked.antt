@@ -1,5 +1,5 @@
 -- A vertex that overlooks its neighbours is stacked on the drawing: each part of it is kept.
-use Rattle.std.proofs.Common.{◌≡◌, ◌≢◌, ℕ, ◌+◌, ◌*◌, ◌<◌, ◌≤◌, ◌⊎◌, inl, inr, Bool, true, false, ◌||◌, ◌==◌, List, [], ◌∷◌, ◌++◌, map, All, arith, refl, sym, ap, ◌∙◌, subst}
+use Rattle.std.proofs.Common.{◌≡◌, ◌≢◌, ℕ, ◌+◌, ◌*◌, ◌<◌, ◌≤◌, ◌⊎◌, inl, inr, Bool, true, false, ◌==◌, List, [], ◌∷◌, ◌++◌, map, All, arith, refl, sym, ap, ◌∙◌, subst}
 use Rattle.std.proofs.lemmas.Bool.{cases_Bool, both_ways, or_cases, eqb-true}
 use Rattle.std.proofs.lemmas.List.{map-append}
 use Rattle.std.proofs.lemmas.Simd.{map-map}
@@ -26,7 +26,7 @@ use Rattle.canonical_orders.specs.Order.{IsStacked}
 use Rattle.stacked_maps.specs.Drawn.{contour_points, start_of, end_of, IsEndOf, MeetAtEnds, IsDrawnUnder, OverlooksAll}
 use Rattle.stacked_maps.specs.Laws.{StackingKeepsDrawings}
 use Rattle.stacked_maps.proofs.Lists.{all-member, each-image, rises-images, counter-turn}
-use Rattle.stacked_maps.proofs.Darts.{stays-from, stays-parts, stays-twin, no-loop, around-member, member-around, around-turn}
+use Rattle.stacked_maps.proofs.Darts.{stays-from, stays-parts, stays-twin, member-around, around-turn}
 use Rattle.stacked_maps.proofs.Corners.{stretch-within}
 use Rattle.stacked_maps.proofs.Cuts.{IsCut, removal-cuts, head-on, contour-tails}
 use Rattle.stacked_maps.proofs.Heads.{on-contour, goes-around}
@@ -57,26 +57,14 @@ module _ (m : ℕ) (h : Multigraph) (next previous : ℕ → ℕ) (base : ℕ) (
   of-before : (u : ℕ) → before u ≡ true → (after u ≡ true) ⊎ (u ≡ w)
   of-before u i = elim (or_cases (after u) (u == w) (sym (s.others u) ∙ i)) [ inl a ↦ inl a | inr e ↦ inr (eqb-true u w e) ]
 
-  after-before : (u : ℕ) → after u ≡ true → before u ≡ true
-  after-before u i = s.others u ∙ ap (λ (z : Bool). z || (u == w)) i
-
   arm-in : (e : ℕ) → is_member e arms ≡ true → (e < 2 * m) × (tail h e ≡ w)
   arm-in = all-member (λ e. (e < 2 * m) × (tail h e ≡ w)) arms s.within
 
   arm-first : (s.arm < 2 * m) × (tail h s.arm ≡ w)
   arm-first = arm-in s.arm (member-head s.arm s.arms)
 
-  arm-stays : (e : ℕ) → is_member e arms ≡ true → stays_dart h before e ≡ true
-  arm-stays e n = (around-member m h next previous t before s.arm e arm-first.0 (ap (is_member e) s.own ∙ n)).2
-
   dart-arm : (e : ℕ) → e < 2 * m → tail h e ≡ w → stays_dart h before e ≡ true → is_member e arms ≡ true
   dart-arm e l q i = sym (ap (is_member e) s.own) ∙ member-around m h next previous t before s.arm e arm-first.0 l (arm-first.1 ∙ sym q) i
-
-  arm-head : (e : ℕ) → is_member e arms ≡ true → after (tail h (twin e)) ≡ true
-  arm-head e n = elim (of-before (tail h (twin e)) (stays-parts h before e (arm-stays e n)).1) [
-    | inl a ↦ a
-    | inr q ↦ absurd (no-loop m h next previous t e (arm-in e n).0 ((arm-in e n).1 ∙ sym q))
-  ]
 
   -- a dart that stays stayed before, or is an arm or the twin of one
   of-darts : (e : ℕ) → e < 2 * m → stays_dart h before e ≡ true → (stays_dart h after e ≡ true) ⊎ ((is_member e arms ≡ true) ⊎ (is_member (twin e) arms ≡ true))

@@ -257,9 +257,6 @@ module _ (m : ℕ) (h : Multigraph) (next previous : ℕ → ℕ) (s : IsSimpleM
     step-old : (c : ℕ) → c < 2 * m → c ≢ twin (previous d) → c ≢ face next d → face after c ≡ face next c
     step-old c l i j = after-old (twin c) (twin-below m c l) (λ k. i (twin-back c p k)) (λ k. j (sym (twin-twin c) ∙ ap twin k ∙ twin-twin e))
 
-    step-before : face after (twin (previous d)) ≡ 2 * m
-    step-before = ap after (twin-twin p) ∙ after-p
-
     step-e : face after (face next d) ≡ 2 * m + 1
     step-e = after-q
 
@@ -281,9 +278,6 @@ module _ (m : ℕ) (h : Multigraph) (next previous : ℕ → ℕ) (s : IsSimpleM
     -- the triangle that is cut off
     pub triangle-d : is_triangle after d ≡ true
     triangle-d = eq-eqb (face after (face after (face after d))) d (ap (λ z. face after (face after z)) step-d ∙ ap (face after) step-e ∙ step-second)
-
-    pub triangle-e : is_triangle after (face next d) ≡ true
-    triangle-e = eq-eqb (face after (face after (face after e))) e (ap (λ z. face after (face after z)) step-e ∙ ap (face after) step-second ∙ step-d)
 
     pub triangle-second : is_triangle after (2 * m + 1) ≡ true
     triangle-second = eq-eqb (face after (face after (face after (2 * m + 1)))) (2 * m + 1) (ap (λ z. face after (face after z)) step-second ∙ ap (face after) step-d ∙ step-e)

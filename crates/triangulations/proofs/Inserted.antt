@@ -29,9 +29,6 @@ module _ (l : List ℕ) (n a c : ℕ) (e : length l ≡ n) where
     abbrev changed : List ℕ
     changed = slice_set (slice_set ((l ++ a ∷ []) ++ c ∷ []) p n) q (n + 1)
 
-    pub changed-length : length changed ≡ n + 2
-    changed-length = length-set (slice_set longer p n) q (n + 1) ∙ length-set longer p n ∙ longer-length
-
     pub changed-q : slice_index changed q ≡ n + 1
     changed-q = get_or-set_same (slice_set longer p n) q (n + 1) 0 (omega (arith, lq, longer-length, length-set longer p n))
 

@@ -4,7 +4,6 @@ use Rattle.std.specs.Ordering.{nat_cmp, ordering_then, is_eq}
 use Rattle.std.specs.declared.cmp.Ordering.{Ordering}
 use Rattle.std.specs.BTreeSet.{BTreeSet, contains}
 use Rattle.std.specs.BTreeMap.{is_at}
-use Rattle.std.specs.List.{list_any}
 use Rattle.std.proofs.lemmas.Bool.{cases_Bool, cases_eq, cases_order, lt-ltb, le-ltb, eq-eqb, eqb-true, ne_eqb, or_cases, or_left, or_right, and_from, and_parts}
 use Rattle.permutations.specs.Count.{some}
 use Rattle.permutations.proofs.Search.{some-more, some-ext}
@@ -72,10 +71,6 @@ some-two k p = let e : 2 * (k + 1) ≡ 2 * k + 1 + 1 = omega arith in ap (λ z. 
 -- one pair more
 one-more : (s : Bool) (a b u v : ℕ) → ((s || ((a == u) && (b == v))) || ((b == u) && (a == v))) ≡ (is_pair a b u v || s)
 one-more s a b u v = grind (arith, cases_Bool s, cases_Bool (a == u), cases_Bool (b == v), cases_Bool (b == u), cases_Bool (a == v))
-
--- no edges, no pairs
-pub knows-none : (g : Multigraph) (pairs : BTreeSet (ℕ × ℕ)) → pairs.keys ≡ [] → KnowsEdges g 0 pairs
-knows-none g pairs e u v = ap (list_any (is_at (pair_cmp (ordered u v)))) e
 
 -- one edge more
 pub knows-more : (g : Multigraph) (k : ℕ) (old new : BTreeSet (ℕ × ℕ)) → KnowsEdges g k old → AddsPair old (ends_of g k).0 (ends_of g k).1 new → KnowsEdges g (k + 1) new

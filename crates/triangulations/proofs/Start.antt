@@ -1,7 +1,7 @@
 -- The map of a plane rotation system of a connected simple graph, from which a triangulation is made.
-use Rattle.std.proofs.Common.{◌≡◌, ℕ, ◌+◌, ◌/◌, ◌<◌, ◌≤◌, ◌⊎◌, inl, inr, ltb, List, [], ◌∷◌, ◌++◌, length, slice_index, refl, sym, ap, ◌∙◌, subst, arith}
-use Rattle.std.proofs.lemmas.Bool.{cases_eq, lt-ltb}
-use Rattle.std.proofs.lemmas.List.{append-nil, length-append, get_or_append_left, get_or_push}
+use Rattle.std.proofs.Common.{◌≡◌, ℕ, ◌/◌, ◌<◌, ◌≤◌, ◌⊎◌, inl, inr, ltb, List, [], slice_index, refl, sym, ap, ◌∙◌, subst, arith}
+use Rattle.std.proofs.lemmas.Bool.{lt-ltb}
+use Rattle.std.proofs.lemmas.List.{append-nil}
 use Rattle.permutations.proofs.Permutations.{permutes-ext}
 use Rattle.permutations.proofs.Restriction.{restricted-next}
 use Rattle.dart_maps.specs.Map.{twin, IsMap}
@@ -16,7 +16,7 @@ use Rattle.faces.proofs.MapSteps.{tail-twin, map-permutes}
 use Rattle.multigraph.proofs.OtherEnd.{other_end-differs}
 use Rattle.drawn_maps.proofs.Systems.{to-drawn}
 use Rattle.triangulations.specs.Cutting.{IsFilled}
-use Rattle.triangulations.specs.Listed.{ListedMap, IsTable, IsMapFrom, IsFilledMap}
+use Rattle.triangulations.specs.Listed.{ListedMap, IsMapFrom, IsFilledMap}
 use Rattle.triangulations.proofs.Cut.{drawn-same}
 
 -- the ends of a dart's edge, in one order or the other
@@ -66,13 +66,3 @@ filled-none g r ok connected three plane simple f b fs bs = record {
 pub start-filled : (g : Multigraph) (r : List (List ℕ)) → IsGraph g → IsConnected g → 3 ≤ g.vertex_count → IsPlaneSystem g r → IsSimple g → (t : ListedMap) → IsMapFrom g r t → IsFilledMap g r 0 t
 start-filled g r ok connected three plane simple t from = subst (λ h. IsFilled g r 0 (edge_count h) h (slice_index t.next) (slice_index t.previous)) (sym from.graph)
     (filled-none g r ok connected three plane simple (slice_index t.next) (slice_index t.previous) from.next.entries from.previous.entries)
-
--- a table with one entry more
-pub table-more : (f : ℕ → ℕ) (n : ℕ) (old new : List ℕ) (x : ℕ) → IsTable f n old → x ≡ f n → new ≡ old ++ x ∷ [] → IsTable f (n + 1) new
-table-more f n old new x w e i = record {
-  long = ap length i ∙ length-append old (x ∷ []) ∙ ap (λ k. k + 1) w.long;
-  entries = λ d l. ap (λ z. slice_index z d) i ∙ elim (cases_eq d n) [
-    | inl j ↦ ap (slice_index (old ++ x ∷ [])) j ∙ get_or_push old x 0 n w.long ∙ e ∙ ap f (sym j)
-    | inr j ↦ get_or_append_left old (x ∷ []) 0 d (omega (arith, l, j, w.long)) ∙ w.entries d (omega (arith, l, j))
-  ];
-}

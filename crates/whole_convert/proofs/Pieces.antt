@@ -1,7 +1,7 @@
 -- Edges around the vertices of a component, dealt to its blocks and cut up at the vertices of each.
 use Rattle.std.proofs.Common.{◌≡◌, ℕ, ◌+◌, ◌-◌, ◌<◌, ◌≤◌, inl, inr, Bool, true, false, ◌==◌, List, [], ◌∷◌, ◌++◌, length, map, filter, take, drop, flat_map, get_or, slice_index, slice_index_or, slice_set, refl, sym, ap, ap₂, ◌∙◌, subst, arith, eqb-true}
 use Rattle.std.proofs.lemmas.Bool.{cases_Bool, cases_eq, both_ways, eq-eqb, ne_eqb}
-use Rattle.std.proofs.lemmas.List.{take_at, drop_at, drop_all, length-drop, take_more, drop_more, length-map, length-append, map-append, get_or-map, get_or_default, get_or-take, length-take-le, append_assoc, append-nil, get_or-set_same, get_or-set_other}
+use Rattle.std.proofs.lemmas.List.{take_at, drop_at, length-drop, take_more, drop_more, length-map, length-append, map-append, get_or-map, get_or_default, get_or-take, length-take-le, append_assoc, append-nil, get_or-set_same, get_or-set_other}
 use Rattle.std.specs.List.{slice_range}
 use Rattle.std.proofs.lemmas.List.Folds.{drop_split}
 use Rattle.std.proofs.lemmas.List.Elements.{filter-append}
@@ -92,9 +92,6 @@ pub record AreCut (degree : ℕ → ℕ) (vs edges : List ℕ) (lists : List (�
   pub left : length edges ≡ at + total degree (drop i vs)
   pub heads : map (λ (z : ℕ × List ℕ). z.0) lists ≡ take i vs
 
-pub cut-begins : (degree : ℕ → ℕ) (vs edges : List ℕ) → length edges ≡ total degree vs → AreCut degree vs edges [] 0 0
-cut-begins degree vs edges h = record { rest = refl; left = omega (arith, h); heads = refl }
-
 -- the next piece is within the edges
 pub cut-within : (degree : ℕ → ℕ) (vs edges : List ℕ) (lists : List (ℕ × List ℕ)) (at i : ℕ) → i < length vs → AreCut degree vs edges lists at i → at + degree (slice_index vs i) ≤ length edges
 cut-within degree vs edges lists at i l h = omega (arith, h.left, ap (total degree) (drop_more vs i 0 l))
@@ -120,10 +117,6 @@ cut-more degree vs edges lists new at end i v piece l h is e p n =
       left = omega (arith, h.left, e, ap (total degree) (drop_more vs i 0 l));
       heads = ap (map (λ (z : ℕ × List ℕ). z.0)) n ∙ (map-append (λ (z : ℕ × List ℕ). z.0) lists ((v, piece) ∷ []) ∙ (ap₂ (λ (a : List ℕ) (b : ℕ). a ++ b ∷ []) h.heads is ∙ sym (take_more vs i 0 l)));
     }
-
--- all pieces
-pub cut-ends : (degree : ℕ → ℕ) (vs edges : List ℕ) (lists : List (ℕ × List ℕ)) (at i : ℕ) → length vs ≤ i → AreCut degree vs edges lists at i → lists ≡ cut_up degree vs edges
-cut-ends degree vs edges lists at i l h = sym (append-nil lists) ∙ (ap (λ (z : List ℕ). lists ++ cut_up degree z (drop at edges)) (sym (drop_all i vs l)) ∙ h.rest)
 
 -- the next vertex is above the last one
 pub cut-above : (degree : ℕ → ℕ) (vs edges : List ℕ) (lists : List (ℕ × List ℕ)) (at i v : ℕ) → Rises vs → i < length vs → AreCut degree vs edges lists at i → v ≡ slice_index vs i → 0 < length lists → (entry lists (length lists - 1)).0 < v

@@ -10,10 +10,6 @@ use Rattle.whole_embed.specs.Component.{block_of}
 use Rattle.whole_embed.specs.Frames.{AreNoted, AreNotedBelow}
 use Rattle.whole_embed.proofs.Components.{block_of-has, block_of-is}
 
--- no edge was noted yet
-pub noted-none : (b : ℕ) (old : List ℕ) → AreNoted [] b old old
-noted-none b old e l = refl
-
 -- one edge more
 pub noted-more : (edges : List ℕ) (b i : ℕ) (old mid new : List ℕ) → i < length edges → slice_index edges i < length mid → AreNoted (take i edges) b old mid → length mid ≡ length old → new ≡ set mid (slice_index edges i) b → AreNoted (take (i + 1) edges) b old new
 noted-more edges b i old mid new h w n same is e l = subst (λ (z : List ℕ). slice_index z e ≡ cond (is_member e (take (i + 1) edges)) b (slice_index old e)) (sym is)

@@ -128,9 +128,6 @@ module _ (g : Multigraph) (s : BlockStructure) (c : ℕ) (is : IsBlockStructure 
   least : (b : ℕ) → is_member b k.blocks ≡ true → is_member (slice_index (block_at s.blocks b) 0) E ≡ true
   least b m = edge-of b (slice_index (block_at s.blocks b) 0) m (member-at (block_at s.blocks b) 0 0 (is.blocks.not_empty b (block-in g s c is b m).0))
 
-  number : ℕ → ℕ
-  number i = slice_index k.blocks i
-
   -- they are the blocks of the component
   pub component-blocks : AreBlocks k.part.graph inner_blocks
   component-blocks = record {

@@ -1,13 +1,12 @@
 -- Numbers each once, and the ranks of numbers among them.
-use Rattle.std.proofs.Common.{◌≡◌, ℕ, suc, ◌+◌, ◌<◌, ◌≤◌, ◌↔◌, inl, inr, nat_lt, eqb, List, [], ◌∷◌, ◌++◌, length, slice_index, sym, ap, ◌∙◌, subst, arith, Contains, IsPermutation}
+use Rattle.std.proofs.Common.{◌≡◌, ℕ, suc, ◌+◌, ◌<◌, ◌≤◌, ◌↔◌, inl, inr, eqb, List, [], ◌∷◌, ◌++◌, length, slice_index, sym, ap, subst, arith, Contains, IsPermutation}
 use Rattle.std.specs.List.{dedup, dedup_from}
 use Rattle.std.specs.List.Retain.{IsFiltered, DiffersFromLast}
-use Rattle.std.proofs.lemmas.Bool.{cases_Bool, cases_lt, cases_eq}
+use Rattle.std.proofs.lemmas.Bool.{cases_Bool}
 use Rattle.std.proofs.lemmas.List.Filters.{dedup_is}
 use Rattle.std.proofs.lemmas.List.Kept.{Contains-from_dedup, Contains-dedup_nat}
 use Rattle.std.proofs.lemmas.List.Sorted.{Contains-permutation, IsPermutation-sym, length_permutation}
 use Rattle.std.proofs.lemmas.List.Elements.{Contains-get_or}
-use Rattle.multigraph.specs.Part.{Rises}
 
 -- sorted, and each once, numbers are the same ones
 pub once-same : (numbers sorted once : List ℕ) → IsPermutation numbers sorted → IsFiltered (DiffersFromLast eqb) [] sorted once → (x : ℕ) → Contains once x ↔ Contains numbers x
@@ -30,16 +29,6 @@ once-short numbers sorted once p f = omega (arith, ap length (dedup_is eqb sorte
     short : (l : List ℕ) → length (dedup eqb l) ≤ length l
     short [] = omega arith
     short (x ∷ xs) = omega (arith, from-short x xs)
-
--- places in increasing numbers increase as the numbers do
-pub places-order : (l : List ℕ) (i j x y : ℕ) → Rises l → i < length l → j < length l → slice_index l i ≡ x → slice_index l j ≡ y → nat_lt i j ≡ nat_lt x y
-places-order l i j x y r li lj p q = elim (cases_lt i j) [
-  | inl less ↦ let up : x < y = omega (arith, r i j less lj, p, q) in grind (arith, less, up)
-  | inr not ↦ elim (cases_eq i j) [
-    | inl e ↦ let same : x ≡ y = sym p ∙ (ap (slice_index l) e ∙ q) in grind (arith, e, same)
-    | inr d ↦ let more : j < i = omega (arith, not, d) in let down : y < x = omega (arith, r j i more li, p, q) in grind (arith, more, down)
-  ]
-]
 
 -- no rank yet, and one more: the first ranks are the places of the first numbers
 pub record AreRanksTo (list numbers ranks : List ℕ) (n : ℕ) : Type 0 where
