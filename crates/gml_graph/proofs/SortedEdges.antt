@@ -1,11 +1,10 @@
 -- Numbers that are sorted and compared with the edges at a vertex.
-use Rattle.std.proofs.Common.{◌≡◌, ◌≢◌, ℕ, ◌<◌, ◌≤◌, Bool, true, false, ◌&&◌, eqb, List, length, get_or, refl, sym, subst, arith}
-use Rattle.std.specs.List.{list_all}
+use Rattle.std.proofs.Common.{◌≡◌, ◌≢◌, ℕ, ◌<◌, ◌≤◌, Bool, true, false, List, get_or, refl, sym, subst, arith}
 use Rattle.std.specs.List.Sorted.{IsPermutation, IsSorted}
 use Rattle.std.specs.Ordering.{nat_cmp}
-use Rattle.std.proofs.lemmas.Bool.{and_right, ne_eqb, true≢false, false_from_ne_true}
+use Rattle.std.proofs.lemmas.Bool.{true≢false, false_from_ne_true}
 use Rattle.std.proofs.lemmas.List.Sorted.{IsPermutation-sym, IsPermutation-trans, IsNonDecreasingBy-from_sort}
-use Rattle.permutations.specs.Members.{is_member, is_distinct}
+use Rattle.permutations.specs.Members.{is_distinct}
 use Rattle.permutations.proofs.Places.{places-differ}
 use Rattle.multigraph.specs.Graph.{Multigraph, incident_edges}
 use Rattle.multigraph.specs.Part.{Rises}
@@ -15,10 +14,6 @@ use Rattle.rotations.proofs.Membership.{incident-distinct}
 use Rattle.rotations.proofs.Arrangements.{permutation-member, permutation-member_back, permutation-distinct}
 use Rattle.gml_graph.specs.Arranged.{is_arrangement}
 use Rattle.gml_graph.proofs.Arranged.{arranged-passes, passes-arranged}
-
--- a list of another length is no arrangement
-pub other_length : (edges list : List ℕ) → (length list ≡ length edges → ⊥) → is_arrangement edges list ≡ false
-other_length edges list n = and_right (is_distinct list && list_all (λ x. is_member x edges) list) (eqb (length list) (length edges)) (ne_eqb (length list) (length edges) n)
 
 -- sorted numbers, all different, rise
 rises-sorted : (list : List ℕ) → is_distinct list ≡ true → IsSorted nat_cmp list → Rises list

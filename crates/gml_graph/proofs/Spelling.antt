@@ -30,14 +30,6 @@ put_behind before others = option_map (λ xs. before ++ xs) others
 abbrev pub spelled_from : List ℕ → Option ℕ → List ℕ → Option (List ℕ)
 spelled_from numbers current text = put_behind numbers (after_digits current (slice_split is_white text))
 
-put_none : (others : Option (List ℕ)) → put_behind [] others ≡ others
-put_none None = refl
-put_none (Some ns) = refl
-
--- at the start nothing is read
-pub spelled-start : (text : List ℕ) → spelled_from [] None text ≡ spelled_numbers text
-spelled-start text = put_none (spelled_numbers text)
-
 -- a text has a first piece
 split_some : (text : List ℕ) → (piece : List ℕ) × (pieces : List (List ℕ)) × (slice_split is_white text ≡ piece ∷ pieces)
 split_some [] = ([], [], refl)

@@ -4,6 +4,7 @@ use Rattle.std.specs.List.{All, list_all}
 use Rattle.decimals.specs.Text.{spaced_numbers}
 use Rattle.gml_text.specs.Bytes.{is_no_quote}
 use Rattle.gml_text.specs.Document.{Document, empty, number, string, list}
+use Rattle.gml_text.specs.Layout.{lines}
 use Rattle.gml_text.specs.Pairs.{pair_before}
 use Rattle.gml_text.specs.declared.document.Pair.{Pair}
 use Rattle.gml_text.specs.declared.document.Value.{Value}
@@ -71,7 +72,7 @@ StartsAtTexts d =
     (named : NamedGraph) (lists : List (List ℕ)) → graph_of_document d ≡ Ok named → ArrangeEdges named.graph lists
     → graph_of_document (marked (map numbers_text lists) d) ≡ Ok (record { graph = named.graph; ids = named.ids; start = told_lists lists })
 
--- ---- one pair of a copy
+-- ---- one pair as it is written
 
 -- the list that a value is
 abbrev pub inner_of : Value → Option Document
@@ -91,14 +92,7 @@ put_unless put text d = (if put then d else put_first start_key text d)
 abbrev pub marked_unless : Bool → List (List ℕ) → Document → Document
 marked_unless found texts d = (if found then d else marked texts d)
 
--- the copy of a pair of a node, whatever pairs are to come
-abbrev pub IsPut : List ℕ → Bool → Pair → Pair → Bool → Type 0
-IsPut text old pair copy new = (rest : Document) → pair_before copy.key copy.value (put_unless new text rest) ≡ put_unless old text (pair_before pair.key pair.value rest)
-
--- the copy of a pair of a graph; some texts are left for the pairs to come
-abbrev pub IsMarkedNode : List (List ℕ) → Pair → Pair → List (List ℕ) → Type 0
-IsMarkedNode texts pair copy left = (rest : Document) → pair_before copy.key copy.value (mark_nodes left rest) ≡ mark_nodes texts (pair_before pair.key pair.value rest)
-
--- the copy of a pair of a document
-abbrev pub IsMarkedGraph : List (List ℕ) → Bool → Pair → Pair → Bool → Type 0
-IsMarkedGraph texts old pair copy new = (rest : Document) → pair_before copy.key copy.value (marked_unless new texts rest) ≡ marked_unless old texts (pair_before pair.key pair.value rest)
+-- a pair is written within this many lists: with the pairs to come, whichever they are, the whole is the same before it, where they are
+-- changed by the first function, and after it, where they are changed by the second
+abbrev pub WritesPair : ℕ → (Document → Document) → (Document → Document) → Pair → List ℕ → List ℕ → Type 0
+WritesPair lists old new pair before after = (rest : Document) → before ++ lines lists (old (pair_before pair.key pair.value rest)) ≡ after ++ lines lists (new rest)

@@ -11,9 +11,10 @@
 // `graph_of` gives the one graph of a document with the ids of its vertices and its start, or the first refusal in one fixed order
 // of all; it looks at each pair of the graph list twice, at those of a node three times (once to hash its id, once for its start)
 // and at those of an edge twice, and copies nothing but the numbers. `Named` shows the graph, the ids and the start, and finds the
-// vertex of an id. `marked` gives a document whose nodes carry given texts, from which the graph starts where these are the numbers of
-// its edges (`laws::marked_documents`). Definitions are in specs: `Number` (whole numbers), `Lists` (what is under a key), `Start` (the start or its
-// refusal), `Answer` (the graph or the refusal), `Named` (graphs with ids), `Marked` (documents with texts in their nodes).
+// vertex of an id. `write_marked` writes a document with given texts in its nodes, from which the graph starts where these are the
+// numbers of its edges (`laws::marked_documents`); it makes no copy of the document. Definitions are in specs: `Number` (whole
+// numbers), `Lists` (what is under a key), `Start` (the start or its refusal), `Answer` (the graph or the refusal), `Named` (graphs
+// with ids), `Marked` (documents with texts in their nodes).
 #![tactic(auto)]
 
 mod edges;
@@ -29,5 +30,5 @@ mod nodes;
 mod start;
 
 pub use fault::GraphFault;
-pub use marking::marked;
+pub use marking::write_marked;
 pub use named::{Named, graph_of};

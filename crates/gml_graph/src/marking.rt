@@ -1,14 +1,15 @@
-// Copies of documents in which each node carries a text.
+// Documents written with texts in their nodes.
 
-ghost use Rattle.std.specs.Prelude.{◌≡◌, IfOk, OnOk, map, option_map};
+ghost use Rattle.std.specs.Prelude.{◌≡◌, ◌+◌, ◌≤◌, ◌++◌, IfOk, OnOk, map, option_map};
 ghost use Rattle.std.specs.Slice.Iter.{iter_rest};
-ghost use Rattle.gml_text.specs.Pairs.{document_of};
-ghost use Rattle.gml_text.specs.WellFormed.{IsWellFormed};
-ghost use Rattle.gml_text.specs.declared.document.Value.TheVariants.{Str, List as Inner};
+ghost use Rattle.gml_text.specs.Document.{empty, depth, max_depth};
+ghost use Rattle.gml_text.specs.Pairs.{pair_before, document_of};
+ghost use Rattle.gml_text.specs.Grammar.{Spells};
+ghost use Rattle.gml_text.specs.Layout.{lines, written};
 ghost use Rattle.gml_graph.specs.Start.{start_key};
-ghost use Rattle.gml_graph.specs.Marked.{put_first, mark_nodes, marked, AreQuotable, list_under, IsPut, IsMarkedNode, IsMarkedGraph};
+ghost use Rattle.gml_graph.specs.Marked.{put_first, put_unless, mark_nodes, marked, marked_unless, AreQuotable, list_under, WritesPair};
 
-use gml_text::{Bytes, Doc, Pair, Pairs, Value, write};
+use gml_text::{Doc, Pair, Pairs, Value, push_closing, push_opening, push_pair, push_string};
 use std::alloc::{AllocError, Global};
 use std::slice::Iter;
 
@@ -32,138 +33,118 @@ fn list_under<'a>(pair: &'a Pair, key: &[u8]) -> Option<&'a Pairs>
     }
 }
 
-// A pair of this key and this list.
-fn list_pair(alloc: Global, key: &[u8], list: Pairs) -> Result<Pair, AllocError>
-    ensures key { IfOk result (λ pair. pair.key ≡ key.now) }
-    ensures value { IfOk result (λ pair. pair.value ≡ Inner list) }
-{
-    let key = Bytes::from_slice(alloc, key)?;
-    Ok(Pair {
-        key,
-        value: Value::List(list),
-    })
-}
-
-// A pair of the key of starts and this text.
-fn text_pair(alloc: Global, text: &[u8]) -> Result<Pair, AllocError>
-    ensures key { IfOk result (λ pair. pair.key ≡ start_key) }
-    ensures value { IfOk result (λ pair. pair.value ≡ Str text.now) }
-{
-    let key = Bytes::from_slice(alloc, start_key())?;
-    let value = Bytes::from_slice(alloc, text)?;
-    Ok(Pair {
-        key,
-        value: Value::Str(value),
-    })
-}
-
-// The copy of a pair of a node: this text if the pair is the first under the key of starts, which is noted then.
-fn put_pair(alloc: Global, pair: &Pair, text: &[u8], put: &mut bool) -> Result<Pair, AllocError>
-    ensures { IfOk result (λ copy. IsPut text.now put.old pair.now copy put.new) }
+// Writes a pair of a node: this text if the pair is the first under the key of starts, which is noted then.
+fn write_node_pair(
+    out: &mut Vec<u8>,
+    pair: &Pair,
+    text: &[u8],
+    put: &mut bool,
+) -> Result<(), AllocError>
+    requires { 2 + depth (pair_before pair.now.key pair.now.value empty) ≤ max_depth }
+    ensures { OnOk result (WritesPair 2 (put_unless put.old text.now) (put_unless put.new text.now) pair.now out.old.items out.new.items) }
 {
     if *put {
-        return pair.copy(alloc);
+        return push_pair(out, 2, pair);
     }
     if pair.key.as_slice() != start_key() {
-        return pair.copy(alloc);
+        return push_pair(out, 2, pair);
     }
     *put = true;
-    text_pair(alloc, text)
+    push_string(out, 2, start_key(), text)
 }
 
-// The pairs of a node with this text under the key of starts.
-fn with_text(alloc: Global, node: &[Pair], text: &[u8]) -> Result<Pairs, AllocError>
-    ensures { IfOk result (λ copy. copy ≡ put_first start_key text.now (document_of node.now)) }
+// Writes the pairs of a node with this text under the key of starts.
+fn write_node(out: &mut Vec<u8>, node: &[Pair], text: &[u8]) -> Result<(), AllocError>
+    requires { 2 + depth (document_of node.now) ≤ max_depth }
+    ensures { OnOk result (out.new.items ≡ out.old.items ++ lines 2 (put_first start_key text.now (document_of node.now))) }
 {
-    let mut held = Vec::with_capacity(alloc, node.len())?;
     let mut put = false;
     for pair in node {
-        held.push(put_pair(alloc, pair, text, &mut put)?)?;
+        write_node_pair(out, pair, text, &mut put)?;
     }
-    if !put {
-        held.push(text_pair(alloc, text)?)?;
+    if put {
+        return Ok(());
     }
-    Ok(Pairs::of(held))
+    push_string(out, 2, start_key(), text)
 }
 
-// The copy of a pair of a graph, with the next of the texts in it if it is a node.
-fn marked_node(
-    alloc: Global,
+// Writes a pair of a graph, with the next of the texts in it if it is a node.
+fn write_graph_pair(
+    out: &mut Vec<u8>,
     pair: &Pair,
     texts: &mut Iter<'_, Vec<u8>>,
-) -> Result<Pair, AllocError>
-    ensures { IfOk result (λ copy. IsMarkedNode (map (λ text. text.items) (iter_rest texts.old)) pair.now copy
-        (map (λ text. text.items) (iter_rest texts.new))) }
+) -> Result<(), AllocError>
+    requires { 1 + depth (pair_before pair.now.key pair.now.value empty) ≤ max_depth }
+    ensures { OnOk result (WritesPair 1 (mark_nodes (map (λ text. text.items) (iter_rest texts.old)))
+        (mark_nodes (map (λ text. text.items) (iter_rest texts.new))) pair.now out.old.items out.new.items) }
 {
     match list_under(pair, b"node") {
-        None => pair.copy(alloc),
+        None => push_pair(out, 1, pair),
         Some(node) => match texts.next() {
-            None => pair.copy(alloc),
+            None => push_pair(out, 1, pair),
             Some(text) => {
-                let list = with_text(alloc, node.as_slice(), text.as_slice())?;
-                list_pair(alloc, b"node", list)
+                push_opening(out, 1, b"node")?;
+                write_node(out, node.as_slice(), text.as_slice())?;
+                push_closing(out, 1)
             }
         },
     }
 }
 
-// The pairs of a graph with these texts in its nodes, in order.
-fn marked_nodes(alloc: Global, graph: &[Pair], texts: &[Vec<u8>]) -> Result<Pairs, AllocError>
-    ensures { IfOk result (λ copy. copy ≡ mark_nodes (map (λ text. text.items) texts.now) (document_of graph.now)) }
+// Writes the pairs of a graph with these texts in its nodes, in order.
+fn write_graph(out: &mut Vec<u8>, graph: &[Pair], texts: &[Vec<u8>]) -> Result<(), AllocError>
+    requires { 1 + depth (document_of graph.now) ≤ max_depth }
+    ensures { OnOk result (out.new.items ≡ out.old.items
+        ++ lines 1 (mark_nodes (map (λ text. text.items) texts.now) (document_of graph.now))) }
 {
-    let mut held = Vec::with_capacity(alloc, graph.len())?;
     let mut left = texts.iter();
     for pair in graph {
-        held.push(marked_node(alloc, pair, &mut left)?)?;
+        write_graph_pair(out, pair, &mut left)?;
     }
-    Ok(Pairs::of(held))
+    Ok(())
 }
 
-// The copy of a pair of a document, with the texts in its nodes if it is the first graph, which is noted then.
-fn marked_graph(
-    alloc: Global,
+// Writes a pair of a document, with the texts in its nodes if it is the first graph, which is noted then.
+fn write_document_pair(
+    out: &mut Vec<u8>,
     pair: &Pair,
     texts: &[Vec<u8>],
     found: &mut bool,
-) -> Result<Pair, AllocError>
-    ensures { IfOk result (λ copy. IsMarkedGraph (map (λ text. text.items) texts.now) found.old pair.now copy found.new) }
+) -> Result<(), AllocError>
+    requires { depth (pair_before pair.now.key pair.now.value empty) ≤ max_depth }
+    ensures { OnOk result (WritesPair 0 (marked_unless found.old (map (λ text. text.items) texts.now))
+        (marked_unless found.new (map (λ text. text.items) texts.now)) pair.now out.old.items out.new.items) }
 {
     if *found {
-        return pair.copy(alloc);
+        return push_pair(out, 0, pair);
     }
     match list_under(pair, b"graph") {
-        None => pair.copy(alloc),
+        None => push_pair(out, 0, pair),
         Some(graph) => {
             *found = true;
-            let list = marked_nodes(alloc, graph.as_slice(), texts)?;
-            list_pair(alloc, b"graph", list)
+            push_opening(out, 0, b"graph")?;
+            write_graph(out, graph.as_slice(), texts)?;
+            push_closing(out, 0)
         }
     }
 }
 
-// Shows that a document is well formed: outside of gml_text this is known only of a document that has been written.
-fn show_well_formed(alloc: Global, d: &Doc) -> Result<(), AllocError>
-    ensures { OnOk result (IsWellFormed d.now) }
-{
-    write(alloc, d)?;
-    Ok(())
-}
-
-/// A copy of a document in which the nodes of the first graph list carry these texts, in order.
+/// Writes a document in its layout, as `gml_text::write` does, with these texts in the nodes of the first graph list, in order.
 ///
 /// In each node the first pair under the key `spqrRotation` becomes a string of the text, whatever its value was; where there
-/// is no such pair it is added after the others. All else stays as it is, also a node for which there is no text; texts for
-/// which there is no node are not used. No text has a quote in it. Takes time linear in the bytes of the document and the texts,
-/// and fails only if memory runs out.
-pub fn marked(alloc: Global, d: &Doc, texts: &[Vec<u8>]) -> Result<Doc, AllocError>
-    requires { AreQuotable (map (λ text. text.items) texts.now) }
-    ensures { IfOk result (λ copy. copy ≡ marked (map (λ text. text.items) texts.now) d.now) }
+/// is no such pair it is added after the others. All else is written as it is, also a node for which there is no text; texts for
+/// which there is no node are not used. Where no text has a quote in it, what is written is read again as the document with these
+/// texts. Takes time linear in the bytes of the document and the texts, no memory but for what is written, and fails only if memory
+/// runs out.
+pub fn write_marked(alloc: Global, d: &Doc, texts: &[Vec<u8>]) -> Result<Vec<u8>, AllocError>
+    ensures layout { IfOk result (λ text. text.items ≡ written (marked (map (λ text. text.items) texts.now) d.now)) }
+    ensures spelled { AreQuotable (map (λ text. text.items) texts.now)
+        → IfOk result (λ text. Spells text.items (marked (map (λ text. text.items) texts.now) d.now)) }
 {
-    show_well_formed(alloc, d)?;
-    let mut held = Vec::with_capacity(alloc, d.pairs().len())?;
+    let mut out = Vec::new(alloc);
     let mut found = false;
     for pair in d.pairs() {
-        held.push(marked_graph(alloc, pair, texts, &mut found)?)?;
+        write_document_pair(&mut out, pair, texts, &mut found)?;
     }
-    Ok(Doc::of(held))
+    Ok(out)
 }

@@ -18,7 +18,7 @@ mod Steps
 mod Refusals
 pub mod Fronts
 pub mod ReadDocument
-mod Lines
+pub mod Lines
 pub mod Written
 pub mod OneDocument
 mod Examples

@@ -147,7 +147,8 @@ impl Doc {
 
     /// The pairs of the document itself, in order.
     pub fn pairs(&self) -> &[Pair]
-        ensures { document_of result.now ≡ self.now }
+        ensures pairs { document_of result.now ≡ self.now }
+        ensures well_formed { IsWellFormed self.now }
     {
         self.top.as_slice()
     }

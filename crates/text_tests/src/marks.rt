@@ -1,17 +1,12 @@
 // Texts that are put into the nodes of a document.
 
-ghost use Rattle.std.specs.Prelude.{map, IfOk};
-ghost use Rattle.gml_graph.specs.Marked.{AreQuotable};
-
-use gml_graph::{graph_of, marked};
-use gml_text::{read, write};
+use gml_graph::{graph_of, write_marked};
+use gml_text::read;
 use std::alloc::{AllocError, Global};
 use std::test::Fail;
 
 // The texts of two vertices with an edge.
-fn texts_of_an_edge(alloc: Global) -> Result<Vec<Vec<u8>>, AllocError>
-    ensures { IfOk result (λ texts. AreQuotable (map (λ text. text.items) texts.items)) }
-{
+fn texts_of_an_edge(alloc: Global) -> Result<Vec<Vec<u8>>, AllocError> {
     let mut texts = Vec::new(alloc);
     texts.push(Vec::from_slice(alloc, b"0")?)?;
     texts.push(Vec::from_slice(alloc, b"0")?)?;
@@ -26,9 +21,10 @@ fn texts_are_put_into_nodes(rt: HostRuntime) -> Result<(), Fail> {
         "graph [\n  node [\n    spqrRotation \"0\"\n    id 0\n    spqrRotation \"x\"\n  ]\n  node 3\n  edge [\n    source 0\n    target 1\n  ]\n  node [\n    id 1\n    a [\n      spqrRotation 2\n    ]\n    spqrRotation \"0\"\n  ]\n]\ngraph 1\n";
     let document = read(rt.alloc(), text.as_bytes())?;
     let texts = texts_of_an_edge(rt.alloc())?;
-    let copy = marked(rt.alloc(), &document, texts.as_slice())?;
-    assert_eq!(rt; write(rt.alloc(), &copy)?.as_slice(), expected.as_bytes());
-    let named = graph_of(rt.alloc(), &copy)?;
+    let written = write_marked(rt.alloc(), &document, texts.as_slice())?;
+    assert_eq!(rt; written.as_slice(), expected.as_bytes());
+    let again = read(rt.alloc(), written.as_slice())?;
+    let named = graph_of(rt.alloc(), &again)?;
     assert_eq!(rt; named.graph().vertex_count(), 2);
     assert_eq!(rt; named.start(1), Some([0].as_slice()));
     Ok(())

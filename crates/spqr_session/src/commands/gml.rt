@@ -12,8 +12,8 @@ use crate::embedded::EmbeddedBlock;
 use crate::lines::put_first;
 use crate::texts::present_texts;
 use decimals::{push_number, push_word};
-use gml_graph::marked;
-use gml_text::{Doc, write};
+use gml_graph::write_marked;
+use gml_text::Doc;
 use multigraph::Graph;
 use std::alloc::{AllocError, Global};
 
@@ -49,6 +49,6 @@ pub(crate) fn carry_gml(
         → IfOk result (λ text. GmlStep setting s text.items s) }
 {
     let texts = present_texts(alloc, graph.vertex_count(), blocks)?;
-    let document = marked(alloc, doc, &texts)?;
-    with_length(alloc, write(alloc, &document)?)
+    let text = write_marked(alloc, doc, &texts)?;
+    with_length(alloc, text)
 }

@@ -4,8 +4,8 @@ use Rattle.gml_text.specs.Document.{depth, pair_count}
 use Rattle.gml_text.proofs.Lines.{depth-pair, pair_count-pair}
 use Rattle.gml_text.proofs.writer.+lines.Goals as goal
 
-pub write_pairs-write_pair-requires : goal.write_pairs-write_pair-requires
-write_pairs-write_pair-requires t c =
+pub write_pairs-push_pair-requires : goal.write_pairs-push_pair-requires
+write_pairs-push_pair-requires t c =
     let items = c.as_slice-pair-items.result.now in
     let i = c.loop-pair.pair-index in
     let pair = c.pair-item.result in (

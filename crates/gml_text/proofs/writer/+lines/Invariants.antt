@@ -5,8 +5,8 @@ use Rattle.gml_text.specs.Pairs.{document_of, pair_before}
 use Rattle.gml_text.specs.Layout.{lines}
 use Rattle.gml_text.proofs.writer.+lines.Given as goal
 
-abbrev pub decreases-write_pair : goal.decreases-write_pair
-decreases-write_pair l = 2 * pair_count (pair_before l.pair.now.key l.pair.now.value empty)
+abbrev pub decreases-push_pair : goal.decreases-push_pair
+decreases-push_pair l = 2 * pair_count (pair_before l.pair.now.key l.pair.now.value empty)
 
 abbrev pub decreases-write_pairs : goal.decreases-write_pairs
 decreases-write_pairs l = 2 * pair_count l.pairs.now + 1
