@@ -9,7 +9,7 @@ use Rattle.pair_split.specs.declared.components.What.TheVariants.{Real}
 use Rattle.pair_split.proofs.Groups.{side-at, in_group-link}
 use Rattle.pair_split.proofs.Links.{stands-in}
 use Rattle.skeletons.proofs.NodeItems.{node-in, stands-of, item-of}
-use Rattle.block_obstruct.specs.Listing.{note_of}
+use Rattle.graph_paths.specs.Listing.{note_of}
 use Rattle.block_obstruct.specs.Towards.{HaveItem, IsItem, IsTowards}
 use Rattle.block_obstruct.specs.Groups.{IsInGroup, AreNoted, AreOwners}
 

@@ -25,7 +25,7 @@ use Rattle.skeleton_runs.proofs.ItemPaths.{path-through}
 use Rattle.skeleton_runs.proofs.NodeFits.{vertex-fits, item-first, item-second}
 use Rattle.skeleton_runs.proofs.SkeletonGraph.{skeleton-limits, graph-edges, edge-item, graph-ends, place-at}
 use Rattle.graph_paths.specs.Along.{PathAlong}
-use Rattle.block_obstruct.specs.Listing.{note_of}
+use Rattle.graph_paths.specs.Listing.{note_of}
 use Rattle.block_obstruct.specs.Towards.{item_in}
 use Rattle.kuratowski.specs.Routes.{route_start, route_end, route_vertices, route_at, EndsRoute, AreRoutes}
 use Rattle.multigraph.specs.Buckets.{ArePlaces}

@@ -1,7 +1,6 @@
 -- The search from a node through the links: what it has noted, and that it reaches each node.
 use Rattle.std.proofs.Common.{◌≡◌, ◌≢◌, ℕ, ◌+◌, ◌<◌, ◌≤◌, ◌||◌, ◌==◌, inl, inr, Bool, true, List, [], length, slice_index_or, refl, sym, ap, ◌∙◌, subst, arith, Contains}
 use Rattle.std.proofs.lemmas.Bool.{cases_Bool, cases_eq, both_ways, or_cases, or_left, or_right, eq-eqb, eqb-true}
-use Rattle.std.proofs.lemmas.List.{get_or_append_left, get_or_default}
 use Rattle.permutations.specs.Members.{is_member}
 use Rattle.permutations.proofs.Arrangements.{member-at}
 use Rattle.permutations.proofs.Relation.{same-tests, connected-closed}
@@ -16,21 +15,9 @@ use Rattle.pair_split.proofs.Links.{contained-link}
 use Rattle.pair_split.proofs.TreeSides.{all-linked, beyond-far, beyond-near, beyond-along, link-back}
 use Rattle.pair_split.proofs.Subtrees.{link-in}
 use Rattle.skeletons.proofs.NodeItems.{comp-in, node-in, stands-of, item-of}
-use Rattle.block_obstruct.specs.Listing.{note_of, Grows}
+use Rattle.graph_paths.specs.Listing.{note_of, Grows}
 use Rattle.block_obstruct.specs.Towards.{HaveItem, IsItem, IsTowards, AreReached}
-use Rattle.block_obstruct.proofs.Listed.{grows-member}
-
--- what was read at a place is there
-pub read-at : (l : List ℕ) (q x : ℕ) → q < length l → x ≡ slice_index_or l q x → slice_index_or l q 0 ≡ x
-read-at l q x b e = sym (e ∙ get_or_default l q x 0 b)
-
--- it is a member
-pub read-member : (l : List ℕ) (q x : ℕ) → q < length l → x ≡ slice_index_or l q x → is_member x l ≡ true
-read-member l q x b e = subst (λ (z : ℕ). is_member z l ≡ true) (read-at l q x b e) (member-at l q 0 b)
-
--- what stands at a place stands there still when more is put behind the list
-pub stays : (P : ℕ → ℕ → Type 0) (l n k o : List ℕ) → Grows P l n k o → (p : ℕ) → p < length l → slice_index_or k p 0 ≡ slice_index_or l p 0
-stays P l n k o a p b = ap (λ (z : List ℕ). slice_index_or z p 0) a.is ∙ get_or_append_left l a.behind 0 p b
+use Rattle.graph_paths.proofs.Listed.{grows-member, stays}
 
 module _ (g : Multigraph) (nodes : List Node) (t : IsTutte g nodes) (k : ℕ) where
   abbrev comps : List Comp

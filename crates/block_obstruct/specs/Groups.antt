@@ -6,7 +6,7 @@ use Rattle.multigraph.specs.Buckets.{ArePlaces}
 use Rattle.graph_theory.specs.Path.{IsPath}
 use Rattle.pair_split.specs.Tutte.{Node, components, node_at, node_item, has_in_group}
 use Rattle.pair_split.specs.declared.components.What.TheVariants.{Real}
-use Rattle.block_obstruct.specs.Listing.{note_of}
+use Rattle.graph_paths.specs.Listing.{note_of}
 use Rattle.block_obstruct.specs.Towards.{HaveItem}
 
 -- edge e is in the group of item i of node k

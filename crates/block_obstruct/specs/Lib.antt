@@ -1,4 +1,3 @@
 -- Certificates carried from a skeleton into its block.
-pub mod Listing
 pub mod Towards
 pub mod Groups

@@ -10,14 +10,12 @@
 // the item that leads there. A route is a path along the edges of a group, found by `graph_paths::path_along`. Nothing recurses.
 //
 // The lemmas that are used most (preceded by their module of proofs/):
-//   Listed         listed-more, grows-more, listed-few: numbers on a list, each once, with notes
 //   TowardsNodes   reached-next, reached-all: the search through the links
 //   GroupsOfEdges  far-right, noted-all: the groups of the edges
 //   ItemRoutes     group-path, route-right, item-routes: the paths through the groups are routes
 #![tactic(auto)]
 
 mod groups;
-mod listing;
 mod obstructing;
 mod towards;
 

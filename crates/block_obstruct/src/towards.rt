@@ -6,10 +6,10 @@ ghost use Rattle.permutations.specs.Members.{is_member};
 ghost use Rattle.multigraph.specs.Graph.{Multigraph};
 ghost use Rattle.pair_split.specs.Tutte.{node_at, IsTutte};
 ghost use Rattle.pair_split.specs.declared.components.What.TheVariants.{Link};
-ghost use Rattle.block_obstruct.specs.Listing.{AreListed, Grows};
+ghost use Rattle.graph_paths.specs.Listing.{AreListed, Grows};
 ghost use Rattle.block_obstruct.specs.Towards.{HaveItem, IsItem, LeadBelow, AreTowards};
 
-use crate::listing::add;
+use graph_paths::add_once;
 use pair_split::{Item, What};
 use spqr_tree::Tree;
 use std::alloc::{AllocError, Global};
@@ -33,7 +33,7 @@ fn begin(
 {
     for (i, item) in items.iter().enumerate() {
         if let What::Link(j) = item.what {
-            add(marks, notes, list, j, i as u32)?;
+            add_once(marks, notes, list, j, i as u32)?;
         }
     }
     Ok(())
@@ -60,7 +60,7 @@ fn spread(
     for item in items {
         if let What::Link(h) = item.what {
             if h != k {
-                add(marks, notes, list, h, note)?;
+                add_once(marks, notes, list, h, note)?;
             }
         }
     }

@@ -1,5 +1,5 @@
 -- The lemmas on searches for paths.
-mod Listed
-mod Loops
-mod SearchSteps
+pub mod Listed
+pub mod Loops
+pub mod SearchSteps
 mod PartPaths

@@ -1,5 +1,5 @@
 -- Numbers on a list, each once: one more is put on it, and there are no more than marks.
-use Rattle.std.proofs.Common.{◌≡◌, ◌≢◌, ℕ, ◌<◌, ◌≤◌, inl, inr, Bool, true, false, List, [], ◌∷◌, ◌++◌, length, set, slice_index_or, refl, sym, ap, ◌∙◌, subst, arith, append_assoc}
+use Rattle.std.proofs.Common.{◌≡◌, ◌≢◌, ℕ, ◌<◌, ◌≤◌, inl, inr, Bool, true, false, List, [], ◌∷◌, ◌++◌, length, set, slice_index_or, refl, sym, ap, ◌∙◌, subst, arith, append-nil, append_assoc}
 use Rattle.std.proofs.lemmas.Bool.{cases_Bool, cases_eq, both_ways, true≢false}
 use Rattle.std.proofs.lemmas.List.{length-set, get_or-set_same, get_or-set_other, get_or_append_left}
 use Rattle.permutations.specs.Members.{is_member}
@@ -8,6 +8,10 @@ use Rattle.permutations.proofs.Members.{member-head, member-cases, member-append
 use Rattle.permutations.proofs.Arrangements.{count-list}
 use Rattle.permutations.proofs.Relation.{same-tests}
 use Rattle.graph_paths.specs.Listing.{note_of, AreListed, Grows}
+
+-- no number more
+pub grows-none : (P : ℕ → ℕ → Type 0) (l n : List ℕ) → Grows P l n l n
+grows-none P l n = record { appended = []; is = sym (append-nil l); kept = λ x m. refl; noted = λ x m f. absurd (both_ways (is_member x l) f m) }
 
 -- what stood on the list stands there still
 pub grows-member : (P : ℕ → ℕ → Type 0) (l n k o : List ℕ) → Grows P l n k o → (x : ℕ) → is_member x l ≡ true → is_member x k ≡ true
@@ -25,13 +29,13 @@ grows-next P Q l n k o j p a b h = record {
   ];
 }
 
--- a number appended a list is no other member
+-- a number appended to a list is no other member
 push-other : (list : List ℕ) (x y : ℕ) → x ≢ y → is_member y (list ++ x ∷ []) ≡ is_member y list
 push-other list x y n = same-tests (is_member y (list ++ x ∷ [])) (is_member y list)
     (λ m. elim (member-append_cases y list (x ∷ []) m) [ inl a ↦ a | inr b ↦ elim (member-cases y x [] b) [ inl e ↦ absurd (n e) | inr f ↦ absurd (true≢false (sym f)) ] ])
     (λ m. member-append_left y list (x ∷ []) m)
 
--- the number appended a list is a member
+-- the number appended to a list is a member
 pub push-same : (list : List ℕ) (x : ℕ) → is_member x (list ++ x ∷ []) ≡ true
 push-same list x = member-append_right x list (x ∷ []) (member-head x [])
 
@@ -72,6 +76,6 @@ grows-more marks notes list x note a l h = record {
 pub listed-few : (marks : List Bool) (notes list : List ℕ) → AreListed marks notes list → length list ≤ length marks
 listed-few marks notes list a = omega (arith, count-list (length marks) (λ x. is_member x list) list a.once a.within (λ x m. refl), count-within (length marks) (λ x. is_member x list))
 
--- what stands at a place stands there still when more is put appended the list
+-- what stands at a place stands there still when more is appended to the list
 pub stays : (P : ℕ → ℕ → Type 0) (l n k o : List ℕ) → Grows P l n k o → (p : ℕ) → p < length l → slice_index_or k p 0 ≡ slice_index_or l p 0
 stays P l n k o a p b = ap (λ (z : List ℕ). slice_index_or z p 0) a.is ∙ get_or_append_left l a.appended 0 p b

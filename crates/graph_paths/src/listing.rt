@@ -6,8 +6,9 @@ ghost use Rattle.graph_paths.specs.Listing.{AreListed, Grows};
 
 use std::alloc::AllocError;
 
-// Appends x to the list, with this note, unless it is on it.
-pub(crate) fn add(
+/// Appends `x` to the list and notes this of it, unless it is on the list. `marks` has the numbers on the list marked; it and `notes` have a
+/// place for each number. In constant time. Fails only if memory runs out.
+pub fn add_once(
     marks: &mut [bool],
     notes: &mut [u32],
     list: &mut Vec<u32>,

@@ -10,7 +10,7 @@ ghost use Rattle.graph_paths.specs.Listing.{AreListed, Grows};
 ghost use Rattle.graph_paths.specs.Along.{PathAlong};
 ghost use Rattle.graph_paths.specs.Search.{LeadsFrom, IsSearched};
 
-use crate::listing::add;
+use crate::listing::add_once;
 use multigraph::{Graph, Numbers, Part};
 use std::alloc::{AllocError, Global};
 
@@ -34,7 +34,7 @@ fn visit(
 {
     for edge in g.incident(x) {
         let y = g.other_end(*edge, x);
-        add(marks, notes, list, y, *edge)?;
+        add_once(marks, notes, list, y, *edge)?;
     }
     Ok(())
 }
@@ -53,7 +53,7 @@ fn explore(
     requires size { length marks.old ≡ g.now.vertex_count }
     ensures { IfOk result (λ _. IsSearched g.now root notes.new) }
 {
-    add(marks, notes, list, root, 0)?;
+    add_once(marks, notes, list, root, 0)?;
     for q in 0..g.vertex_count() {
         if (q as usize) < list.len() {
             let x = list[q as usize];

@@ -3,7 +3,7 @@ use Rattle.std.proofs.Common.{◌≡◌, ◌∙◌, ℕ, ◌<◌, inl, inr, List
 use Rattle.pair_split.specs.Tutte.{node_at}
 use Rattle.pair_split.specs.declared.components.Item.{Item}
 use Rattle.pair_split.specs.declared.components.What.TheVariants.{Real}
-use Rattle.block_obstruct.specs.Listing.{note_of}
+use Rattle.graph_paths.specs.Listing.{note_of}
 use Rattle.block_obstruct.specs.Towards.{HaveItem, IsItem}
 use Rattle.block_obstruct.specs.Groups.{IsInGroup, AreNoted}
 use Rattle.block_obstruct.proofs.GroupsOfEdges.{edge-below, own-right, far-right, noted-next}

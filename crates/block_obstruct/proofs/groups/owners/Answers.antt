@@ -1,7 +1,7 @@
 -- All edges were noted.
 use Rattle.std.proofs.Common.{◌≢◌, ◌∙◌, ℕ, ◌<◌, List, length, drop, refl, sym, subst, arith}
 use Rattle.std.proofs.lemmas.List.{take_at}
-use Rattle.block_obstruct.specs.Listing.{note_of}
+use Rattle.graph_paths.specs.Listing.{note_of}
 use Rattle.block_obstruct.specs.Towards.{IsTowards}
 use Rattle.block_obstruct.specs.Groups.{AreOwners}
 use Rattle.block_obstruct.proofs.GroupsOfEdges.{noted-all}

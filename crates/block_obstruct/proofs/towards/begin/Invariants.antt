@@ -1,7 +1,7 @@
 use Rattle.std.proofs.Common.{◌≡◌, length}
 use Rattle.pair_split.specs.declared.components.What.TheVariants.{Link}
 use Rattle.block_obstruct.specs.Towards.{item_in, IsItem}
-use Rattle.block_obstruct.proofs.Loops.{Listed}
+use Rattle.graph_paths.proofs.Loops.{Listed}
 use Rattle.block_obstruct.proofs.towards.begin.Given as goal
 
 abbrev pub invariant-loop-i : goal.invariant-loop-i

@@ -3,10 +3,11 @@ use Rattle.std.proofs.Common.{◌≡◌, ◌≢◌, ◌∙◌, ℕ, ◌<◌, ◌
 use Rattle.pair_split.specs.Tutte.{node_at}
 use Rattle.pair_split.specs.declared.components.Item.{Item}
 use Rattle.pair_split.specs.declared.components.What.TheVariants.{Link}
-use Rattle.block_obstruct.specs.Listing.{note_of, Grows}
+use Rattle.graph_paths.specs.Listing.{note_of, Grows}
 use Rattle.block_obstruct.specs.Towards.{HaveItem, IsItem, LeadBelow}
-use Rattle.block_obstruct.proofs.Listed.{listed-few}
-use Rattle.block_obstruct.proofs.TowardsNodes.{read-at, read-member, links-below, reached-begin, reached-next, reached-past, reached-all}
+use Rattle.graph_paths.proofs.Listed.{listed-few}
+use Rattle.graph_paths.proofs.SearchSteps.{read-at, read-member}
+use Rattle.block_obstruct.proofs.TowardsNodes.{links-below, reached-begin, reached-next, reached-past, reached-all}
 use Rattle.block_obstruct.proofs.towards.reach.Goals as goal
 use Rattle.block_obstruct.proofs.towards.reach.Goals.{then-q-len+in_ok-spread, else-q-len}
 

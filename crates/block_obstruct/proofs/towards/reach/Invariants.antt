@@ -1,5 +1,5 @@
 use Rattle.std.proofs.Common.{◌≡◌, length}
-use Rattle.block_obstruct.specs.Listing.{AreListed}
+use Rattle.graph_paths.specs.Listing.{AreListed}
 use Rattle.block_obstruct.specs.Towards.{AreReached}
 use Rattle.block_obstruct.proofs.towards.reach.Given as goal
 

@@ -1,7 +1,7 @@
 -- What the search has noted.
 use Rattle.std.proofs.Common.{◌≢◌, ◌∙◌, ℕ, ◌<◌, List, length, drop, sym, subst}
 use Rattle.std.proofs.lemmas.List.{take_at}
-use Rattle.block_obstruct.specs.Listing.{note_of}
+use Rattle.graph_paths.specs.Listing.{note_of}
 use Rattle.block_obstruct.specs.Towards.{IsTowards}
 use Rattle.block_obstruct.proofs.towards.towards.Goals as goal
 

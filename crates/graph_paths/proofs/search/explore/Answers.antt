@@ -8,11 +8,11 @@ use Rattle.graph_paths.proofs.search.explore.Goals.{then-q-len+in_ok-visit, else
 
 pub loop-q-init : goal.loop-q-init
 loop-q-init c = record {
-  listed = c.in_ok-add.ensures.listed;
-  size = c.in_ok-add.ensures.size ∙ c.requires.size;
-  search = search-begin c.args.g.now c.vertex_count-q-end.ensures.graph c.args.root c.add.new.notes c.add.new.list.items c.args.notes.now
-      (subst (λ (z : List ℕ). Grows (λ y m. (y ≡ c.args.root) × (m ≡ 0)) z c.args.notes.now c.add.new.list.items c.add.new.notes) c.requires.empty c.in_ok-add.ensures.grows)
-      c.in_ok-add.ensures.held c.in_ok-add.ensures.listed.once;
+  listed = c.in_ok-add_once.ensures.listed;
+  size = c.in_ok-add_once.ensures.size ∙ c.requires.size;
+  search = search-begin c.args.g.now c.vertex_count-q-end.ensures.graph c.args.root c.add_once.new.notes c.add_once.new.list.items c.args.notes.now
+      (subst (λ (z : List ℕ). Grows (λ y m. (y ≡ c.args.root) × (m ≡ 0)) z c.args.notes.now c.add_once.new.list.items c.add_once.new.notes) c.requires.empty c.in_ok-add_once.ensures.grows)
+      c.in_ok-add_once.ensures.held c.in_ok-add_once.ensures.listed.once;
 }
 
 pub visit-requires-clause-vertex : goal.visit-requires-clause-vertex

@@ -32,8 +32,8 @@ loop-edge-preserved c =
     let edge : e < edge_count g = subst (λ s. slice_index s i < edge_count g) (sym edges) (incident_at-edge g x i 0 l) in
     let from : is_end g x e ≡ true = subst (λ s. is_end g x (slice_index s i) ≡ true) (sym edges) (incident_at-end g x i 0 l) in
     steps-more (λ y m. LeadsFrom g x y m) (λ j h. other_end g (slice_index (incident_edges g x) j) x ≡ h) i (length c.args.marks.now) c.args.notes.now c.args.list.now.items
-    c.loop-edge.marks c.loop-edge.notes c.loop-edge.list.items c.add.new.marks c.add.new.notes c.add.new.list.items c.other_end-y.result e c.loop-edge.invariant
-    c.in_ok-add.ensures.listed c.in_ok-add.ensures.size c.in_ok-add.ensures.grows c.in_ok-add.ensures.held
+    c.loop-edge.marks c.loop-edge.notes c.loop-edge.list.items c.add_once.new.marks c.add_once.new.notes c.add_once.new.list.items c.other_end-y.result e c.loop-edge.invariant
+    c.in_ok-add_once.ensures.listed c.in_ok-add_once.ensures.size c.in_ok-add_once.ensures.grows c.in_ok-add_once.ensures.held
     (record { edge = edge; from = from; to = sym c.other_end-y.ensures })
     (λ h q. c.other_end-y.ensures ∙ (ap (λ s. other_end g (slice_index s i) x) edges ∙ q))
 

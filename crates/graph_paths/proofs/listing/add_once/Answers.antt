@@ -1,9 +1,9 @@
--- A number without a mark is put behind the list.
+-- A number without a mark is appended to the list.
 use Rattle.std.proofs.Common.{◌≡◌, List, ℕ, true, slice_set, sym, subst}
 use Rattle.permutations.specs.Members.{is_member}
-use Rattle.block_obstruct.specs.Listing.{AreListed, Grows}
-use Rattle.block_obstruct.proofs.Listed.{listed-more, grows-more, push-same}
-use Rattle.block_obstruct.proofs.listing.add.Goals as goal
+use Rattle.graph_paths.specs.Listing.{AreListed, Grows}
+use Rattle.graph_paths.proofs.Listed.{listed-more, grows-more, push-same}
+use Rattle.graph_paths.proofs.listing.add_once.Goals as goal
 
 pub returns-clause-listed : goal.returns-clause-listed
 returns-clause-listed c = subst (λ (z : List ℕ). AreListed (slice_set c.args.marks.now c.args.x true) (slice_set c.args.notes.now c.args.x c.args.note) z) (sym c.in_ok-push.ensures.items)
