@@ -7,6 +7,7 @@ use Rattle.permutations.specs.Exchange.{restricted}
 use Rattle.permutations.proofs.Relation.{same-tests, connected-closed}
 use Rattle.permutations.proofs.Members.{member-head, member-tail, no_member-cons}
 use Rattle.permutations.proofs.Unlinking.{alone-orbit}
+use Rattle.permutations.proofs.Arrangements.{all-member}
 use Rattle.dart_maps.specs.Map.{twin}
 use Rattle.dart_maps.proofs.Darts.{twin-twin, twin-below, twin-even}
 use Rattle.multigraph.specs.Graph.{Multigraph, edge_count, ends_of}
@@ -15,7 +16,7 @@ use Rattle.faces.specs.Euler.{tail}
 use Rattle.triangulations.specs.Triangulation.{IsTriangulated}
 use Rattle.canonical_orders.specs.Contours.{stays_dart, IsContour}
 use Rattle.canonical_orders.proofs.Chords.{IsKeptMap, IsKept, step-tail}
-use Rattle.canonical_orders.proofs.FreeVertex.{all-member, dart-loopless, drawn-kept}
+use Rattle.canonical_orders.proofs.FreeVertex.{dart-loopless, drawn-kept}
 
 -- a contour of two darts
 module _ (m : ℕ) (h : Multigraph) (next previous : ℕ → ℕ) (base : ℕ) (stays : ℕ → Bool) (c : ℕ) (tri : IsTriangulated m h next previous) (below : base < 2 * m)
@@ -28,10 +29,10 @@ module _ (m : ℕ) (h : Multigraph) (next previous : ℕ → ℕ) (base : ℕ) (
   kept = drawn-kept m h next previous stays tri.map.drawn
 
   first : IsKept m (stays_dart h stays) base
-  first = all-member (λ d. (d < 2 * m) × (stays_dart h stays d ≡ true)) (base ∷ c ∷ []) contour.darts base (member-head base (c ∷ []))
+  first = all-member (λ d. (d < 2 * m) × (stays_dart h stays d ≡ true)) (base ∷ c ∷ []) base contour.darts (member-head base (c ∷ []))
 
   second : IsKept m (stays_dart h stays) c
-  second = all-member (λ d. (d < 2 * m) × (stays_dart h stays d ≡ true)) (base ∷ c ∷ []) contour.darts c (member-tail c base (c ∷ []) (member-head c []))
+  second = all-member (λ d. (d < 2 * m) × (stays_dart h stays d ≡ true)) (base ∷ c ∷ []) c contour.darts (member-tail c base (c ∷ []) (member-head c []))
 
   -- the second is the twin of the first
   second-is : c ≡ twin base

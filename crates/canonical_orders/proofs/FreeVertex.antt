@@ -1,7 +1,6 @@
 -- A contour of three or more vertices has a free vertex: the theorem that an order of the vertices rests on. And what the darts of a free vertex are.
-use Rattle.std.proofs.Common.{◌≡◌, ◌≢◌, ◌⊎◌, ℕ, suc, ◌*◌, ◌/◌, ◌<◌, ◌≤◌, inl, inr, Bool, true, false, not, ◌&&◌, ◌==◌, List, [], ◌∷◌, ◌++◌, All, map, length, refl, sym, ap, ◌∙◌, subst, append_assoc, length-append, arith}
+use Rattle.std.proofs.Common.{◌≡◌, ◌≢◌, ◌⊎◌, ℕ, suc, ◌*◌, ◌/◌, ◌<◌, ◌≤◌, inl, inr, Bool, true, false, not, ◌&&◌, ◌==◌, List, [], ◌∷◌, ◌++◌, map, length, refl, sym, ap, ◌∙◌, subst, append_assoc, length-append, arith}
 use Rattle.std.proofs.lemmas.Bool.{cases_Bool, cases_eq, both_ways, true≢false, eq-eqb, ne_eqb, eqb-true, and_parts, and_from, not_from_false}
-use Rattle.std.proofs.lemmas.List.Elements.{All-head, All-tail}
 use Rattle.permutations.specs.Members.{is_member, is_distinct}
 use Rattle.permutations.specs.Count.{count}
 use Rattle.permutations.specs.Cyclic.{last_or}
@@ -11,6 +10,7 @@ use Rattle.permutations.proofs.Search.{some-witness, some-from}
 use Rattle.permutations.proofs.Members.{member-head, member-tail, member-cases, member-append_left, member-append_right, member-append_cases, cut_at}
 use Rattle.permutations.proofs.Mapped.{member-map, map-member}
 use Rattle.permutations.proofs.Restriction.{restricted-permutes, restricted-goes, restricted-alone, restricted-orbit}
+use Rattle.permutations.proofs.Arrangements.{all-member}
 use Rattle.dart_maps.specs.Map.{twin}
 use Rattle.dart_maps.proofs.Darts.{twin-twin, twin-below, twin-cases, twin-edge}
 use Rattle.dart_maps.proofs.Plane.{restricted-plane}
@@ -59,14 +59,6 @@ two-only n p a b l k d h i two x j t = elim (cases_eq x a) [
       count-remove n (λ z. p z && not (z == a)) b k (and_from (p b) (not (b == a)) i (not_from_false (b == a) (ne_eqb b a (λ e. d (sym e))))),
     )
 
--- what holds of all members holds of a member
-pub all-member : (P : ℕ → Type 0) (l : List ℕ) → All P l → (x : ℕ) → is_member x l ≡ true → P x
-all-member P [] a x m = absurd (true≢false (sym m))
-all-member P (y ∷ l) a x m = elim (member-cases x y l m) [
-  | inl e ↦ subst P e (All-head P y l a)
-  | inr n ↦ all-member P l (All-tail P y l a) x n
-]
-
 -- no dart leads back to its own vertex
 pub dart-loopless : (m : ℕ) (h : Multigraph) → IsGraph h → edge_count h ≡ m → (d : ℕ) → d < 2 * m → tail h d ≢ tail h (twin d)
 dart-loopless m h ok e d l q = elim (twin-cases d) [
@@ -94,7 +86,7 @@ pub contour-round : (m : ℕ) (h : Multigraph) (next : ℕ → ℕ) (base : ℕ)
     → IsRound m (restricted (2 * m) (stays_dart h stays) next) (stays_dart h stays) (tail h) (on_contour h (base ∷ rest)) (base ∷ rest)
 contour-round m h next base stays rest c = record {
   around = around-closed (FaceStep (restricted (2 * m) (stays_dart h stays) next)) base rest c.along c.around;
-  darts = all-member (λ d. (d < 2 * m) × (stays_dart h stays d ≡ true)) (base ∷ rest) c.darts;
+  darts = λ x. all-member (λ d. (d < 2 * m) × (stays_dart h stays d ≡ true)) (base ∷ rest) x c.darts;
   once = c.once;
   all = λ x. refl;
 }
@@ -103,7 +95,7 @@ contour-round m h next base stays rest c = record {
 pub contour-stays : (m : ℕ) (h : Multigraph) (next : ℕ → ℕ) (base : ℕ) (stays : ℕ → Bool) (contour : List ℕ) → IsContour m h next base stays contour → (x : ℕ) → on_contour h contour x ≡ true → stays x ≡ true
 contour-stays m h next base stays contour c x o =
     let w = map-member (tail h) contour x o in
-    let d = all-member (λ d. (d < 2 * m) × (stays_dart h stays d ≡ true)) contour c.darts w.0 w.1 in
+    let d = all-member (λ d. (d < 2 * m) × (stays_dart h stays d ≡ true)) contour w.0 c.darts w.1 in
     ap stays (sym w.2) ∙ (and_parts (stays (tail h w.0)) (stays (tail h (twin w.0))) d.1).0
 
 -- the head of a dart is a neighbour of its tail

@@ -8,6 +8,7 @@ use Rattle.permutations.specs.Members.{is_member}
 use Rattle.permutations.proofs.Count.{count-ext, count-remove, count-zero, last-passing}
 use Rattle.permutations.proofs.Search.{some-from}
 use Rattle.permutations.proofs.Members.{member-head, member-append}
+use Rattle.permutations.proofs.Arrangements.{all-member}
 use Rattle.dart_maps.specs.Map.{twin}
 use Rattle.multigraph.specs.Graph.{Multigraph, edge_count}
 use Rattle.multigraph.specs.Marks.{is_marked}
@@ -17,7 +18,7 @@ use Rattle.canonical_orders.specs.Contours.{stays_dart, IsContour, IsRemoval}
 use Rattle.canonical_orders.specs.Free.{is_adjacent, on_contour, contour_neighbours, IsFree}
 use Rattle.canonical_orders.specs.Order.{Removed, stays_after}
 use Rattle.canonical_orders.specs.State.{IsTriangulatedMap, IsCanonicalOrderOf, can_leave, IsKept, IsReady, IsTakenOff, IsPartOrder}
-use Rattle.canonical_orders.proofs.FreeVertex.{all-member, dart-loopless, contour-stays, free-vertex, free-at}
+use Rattle.canonical_orders.proofs.FreeVertex.{dart-loopless, contour-stays, free-vertex, free-at}
 use Rattle.canonical_orders.proofs.ChordThree.{contour-three}
 use Rattle.canonical_orders.proofs.Removing.{removal-keeps}
 use Rattle.canonical_orders.proofs.Starting.{last-contour}
@@ -130,10 +131,10 @@ module _ (t : ListedMap) (tri : IsTriangulatedMap t) (order : List Removed) (lef
 
   -- the two ends of the base stay, and differ
   first-stays : stays (tail h 0) ≡ true
-  first-stays = (and_parts (stays (tail h 0)) (stays (tail h (twin 0))) (all-member (λ d. (d < 2 * m) × (stays_dart h stays d ≡ true)) last now.darts 0 (ap (is_member 0) now.begins ∙ member-head 0 now.rest)).1).0
+  first-stays = (and_parts (stays (tail h 0)) (stays (tail h (twin 0))) (all-member (λ d. (d < 2 * m) × (stays_dart h stays d ≡ true)) last 0 now.darts (ap (is_member 0) now.begins ∙ member-head 0 now.rest)).1).0
 
   last-stays : stays (tail h (twin 0)) ≡ true
-  last-stays = (and_parts (stays (tail h 0)) (stays (tail h (twin 0))) (all-member (λ d. (d < 2 * m) × (stays_dart h stays d ≡ true)) last now.darts 0 (ap (is_member 0) now.begins ∙ member-head 0 now.rest)).1).1
+  last-stays = (and_parts (stays (tail h 0)) (stays (tail h (twin 0))) (all-member (λ d. (d < 2 * m) × (stays_dart h stays d ≡ true)) last 0 now.darts (ap (is_member 0) now.begins ∙ member-head 0 now.rest)).1).1
 
   ends-apart : tail h (twin 0) ≢ tail h 0
   ends-apart e = dart-loopless m h tri.map.graph tri.map.drawn.edges 0 base-in (sym e)

@@ -32,11 +32,6 @@ module _ (nodes edges : List Document) (ids : List ℤ) (few : length nodes ≤ 
   pub start-behind : (ends : List (ℕ × ℕ)) (fault : GraphFault) → edge_ends ids edges ≡ Ok ends → Refuses (start_by (multigraph_of (length ids) ends) (start_texts nodes)) fault → Refuses (graph_between nodes edges) fault
   start-behind ends fault accepted h = Refuses-passed (start_by (multigraph_of (length ids) ends) (start_texts nodes)) (graph_between nodes edges) fault (λ f refused. started ends (Err f) accepted refused) h
 
-  -- and an accepted start is that of the graph
-  pub start-accepted : (ends : List (ℕ × ℕ)) (start : Option (List (List ℕ))) → edge_ends ids edges ≡ Ok ends → start_by (multigraph_of (length ids) ends) (start_texts nodes) ≡ Ok start
-      → graph_between nodes edges ≡ Ok (record { graph = multigraph_of (length ids) ends; ids = ids; start = start })
-  start-accepted ends start accepted same = started ends (Ok start) accepted same
-
 -- two graph lists or more
 pub graphs-many : (graphs : List Document) → 2 ≤ length graphs → graph_among graphs ≡ Err MoreGraphs
 graphs-many [] l = absurd (omega arith)

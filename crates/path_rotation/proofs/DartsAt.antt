@@ -5,14 +5,14 @@ use Rattle.std.proofs.lemmas.List.Elements.{filter_more}
 use Rattle.permutations.specs.Members.{is_member}
 use Rattle.permutations.proofs.Filter.{filter-member, member-filter_parts}
 use Rattle.permutations.proofs.Mapped.{member-map, map-member}
-use Rattle.permutations.proofs.Arrangements.{member-at}
 use Rattle.permutations.proofs.Places.{place-of}
 use Rattle.multigraph.specs.Graph.{Multigraph, edge_count, is_end, incident_edges, IsGraph}
 use Rattle.multigraph.specs.Marks.{is_marked}
-use Rattle.multigraph.proofs.Incident.{incident-has, incident_at-edge, incident_at-end}
+use Rattle.multigraph.proofs.Incident.{incident_at-edge, incident_at-end}
 use Rattle.multigraph.proofs.DartEnds.{dart-edge, tail-end, dart_from-edge, dart_from-below, dart_from-tail, dart_from-of_dart}
 use Rattle.faces.specs.Euler.{dart_from}
 use Rattle.path_rotation.specs.Fitting.{IsDartAt, AreDartsAt}
+use Rattle.rotations.proofs.Membership.{incident-member}
 
 -- one more item, which passes
 pub filter-pass : (p : ℕ → Bool) (l : List ℕ) (i : ℕ) → i < length l → p (slice_index l i) ≡ true → filter p (take (i + 1) l) ≡ filter p (take i l) ++ slice_index l i ∷ []
@@ -37,11 +37,6 @@ pub darts-skip : (g : Multigraph) (drawn : List Bool) (v : ℕ) (edges : List �
 darts-skip g drawn v edges i darts b h e = e ∙ sym (ap (map (dart_from g v)) (filter-fail (is_marked drawn) edges i b h))
 
 -- the edges at a vertex
-pub incident-member : (g : Multigraph) (v e : ℕ) → e < edge_count g → is_end g v e ≡ true → is_member e (incident_edges g v) ≡ true
-incident-member g v e l h =
-    let w = incident-has g v e l h in
-    subst (λ (z : ℕ). is_member z (incident_edges g v) ≡ true) w.2 (member-at (incident_edges g v) w.0 e w.1)
-
 pub member-edge : (g : Multigraph) (v e : ℕ) → is_member e (incident_edges g v) ≡ true → (e < edge_count g) × (is_end g v e ≡ true)
 member-edge g v e m =
     let w = place-of (incident_edges g v) e m in (

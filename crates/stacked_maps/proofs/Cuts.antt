@@ -7,6 +7,7 @@ use Rattle.permutations.specs.Members.{is_member}
 use Rattle.permutations.specs.Exchange.{restricted}
 use Rattle.permutations.proofs.Members.{member-head, member-tail, member-cases, member-append_left, member-append_right, member-append_cases}
 use Rattle.permutations.proofs.Mapped.{member-map, map-member}
+use Rattle.permutations.proofs.Arrangements.{all-member}
 use Rattle.dart_maps.specs.Map.{twin, face}
 use Rattle.dart_maps.proofs.Darts.{twin-twin, twin-below}
 use Rattle.multigraph.specs.Graph.{Multigraph}
@@ -15,7 +16,7 @@ use Rattle.triangulations.specs.Triangulation.{IsTriangulated}
 use Rattle.canonical_orders.specs.Contours.{stays_dart, Successive, IsContour, IsRemoval}
 use Rattle.stacked_points.specs.Contours.{contour_of}
 use Rattle.stacked_maps.specs.Drawn.{contour_points, start_of, end_of, OverlooksAll}
-use Rattle.stacked_maps.proofs.Lists.{last-cut, last_or-member, last-image, cons-first, cons-rest, map-alike, chain-from, all-member}
+use Rattle.stacked_maps.proofs.Lists.{last-cut, last_or-member, last-image, cons-first, cons-rest, map-alike, chain-from}
 use Rattle.stacked_maps.proofs.Darts.{stays-twin, permutes, next-tail, on-tail}
 
 -- the points of the two contours, with the stretch from a to b in the later one
@@ -28,7 +29,7 @@ pub record IsCut (h : Multigraph) (at : ℕ → ℕ × ℕ) (contour later : Lis
 module _ (m : ℕ) (h : Multigraph) (next previous : ℕ → ℕ) (t : IsTriangulated m h next previous) (base : ℕ) (stays : ℕ → Bool) (contour later : List ℕ) (w : ℕ) (heads : List ℕ) (c : IsContour m h next base stays contour) (r : IsRemoval h next contour later w heads) where
   -- the dart from w to its left neighbour
   x-in : (r.x < 2 * m) × (stays_dart h stays r.x ≡ true)
-  x-in = all-member (λ d. (d < 2 * m) × (stays_dart h stays d ≡ true)) contour c.darts r.x (ap (is_member r.x) r.cut ∙ member-append_right r.x (r.first ∷ r.front) (r.x ∷ r.y ∷ r.back) (member-head r.x (r.y ∷ r.back)))
+  x-in = all-member (λ d. (d < 2 * m) × (stays_dart h stays d ≡ true)) contour r.x c.darts (ap (is_member r.x) r.cut ∙ member-append_right r.x (r.first ∷ r.front) (r.x ∷ r.y ∷ r.back) (member-head r.x (r.y ∷ r.back)))
 
   in-turn-below : (x : ℕ) (l : List ℕ) → x < 2 * m → Successive (λ d e. next d ≡ e) (x ∷ l) → (e : ℕ) → is_member e (x ∷ l) ≡ true → e < 2 * m
   in-turn-below x [] b s e n = elim (member-cases e x [] n) [ inl q ↦ subst (λ (z : ℕ). z < 2 * m) q b | inr k ↦ absurd (true≢false (sym k)) ]

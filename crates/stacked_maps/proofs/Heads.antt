@@ -6,6 +6,7 @@ use Rattle.permutations.specs.Cyclic.{last_or}
 use Rattle.permutations.specs.Exchange.{restricted}
 use Rattle.permutations.proofs.Members.{member-head, member-tail, member-append_right, CutAt, cut_at}
 use Rattle.permutations.proofs.Turned.{IsTurn-swap}
+use Rattle.permutations.proofs.Arrangements.{all-member}
 use Rattle.dart_maps.specs.Map.{twin}
 use Rattle.dart_maps.proofs.Darts.{twin-twin, twin-below}
 use Rattle.multigraph.specs.Graph.{Multigraph}
@@ -20,7 +21,7 @@ use Rattle.stacked_points.specs.Contours as points
 use Rattle.stacked_points.proofs.Stacking.{Across}
 use Rattle.stacked_points.proofs.Corners.{first_differ, last_differ}
 use Rattle.stacked_maps.specs.Drawn.{contour_points, start_of, end_of, IsDrawnUnder}
-use Rattle.stacked_maps.proofs.Lists.{last-cut, last_or-end, last_or-cons, last_or-member, cons-first, chain-from, all-member, each-image, alone, counter-turn, counter-two}
+use Rattle.stacked_maps.proofs.Lists.{last-cut, last_or-end, last_or-cons, last_or-member, cons-first, chain-from, each-image, alone, counter-turn, counter-two}
 use Rattle.stacked_maps.proofs.Darts.{stays-twin, no-loop, same-dart, on-tail, around-last, around-distinct}
 use Rattle.stacked_maps.proofs.Corners.{IsCorner, corner-both, corner-first, corner-last}
 
@@ -39,7 +40,7 @@ module _ (m : ℕ) (h : Multigraph) (next previous : ℕ → ℕ) (t : IsTriangu
   Goes v y = IsCounterclockwise (P y) (map E (darts_around m h next stays y) ++ v ∷ [])
 
   pub on-contour : (d : ℕ) → is_member d contour ≡ true → (d < 2 * m) × (stays_dart h stays d ≡ true)
-  on-contour = all-member (λ d. (d < 2 * m) × (stays_dart h stays d ≡ true)) contour c.darts
+  on-contour = λ x. all-member (λ d. (d < 2 * m) × (stays_dart h stays d ≡ true)) contour x c.darts
 
   pub base-on : is_member base contour ≡ true
   base-on = ap (is_member base) c.begins ∙ member-head base c.rest

@@ -1,5 +1,5 @@
 -- Lists of numbers and their images as points: ends, members one by one and two by two, and lists that go counterclockwise.
-use Rattle.std.proofs.Common.{◌≡◌, ◌≢◌, ℕ, suc, ◌⊎◌, inl, inr, true, List, [], ◌∷◌, ◌++◌, length, reverse, map, All, arith, refl, sym, ap, ap₂, ◌∙◌, subst, append_assoc}
+use Rattle.std.proofs.Common.{◌≡◌, ◌≢◌, ℕ, ◌⊎◌, inl, inr, true, List, [], ◌∷◌, ◌++◌, length, reverse, map, arith, refl, sym, ap, ap₂, ◌∙◌, subst, append_assoc}
 use Rattle.std.proofs.lemmas.Bool.{true≢false, both_ways}
 use Rattle.std.proofs.lemmas.List.{map-append, reverse-append, length-append}
 use Rattle.permutations.specs.Members.{is_member, is_distinct}
@@ -70,11 +70,6 @@ chain-from R [] l s = s
 chain-from R (a ∷ []) [] s = tt
 chain-from R (a ∷ []) (b ∷ l) s = s.1
 chain-from R (a ∷ b ∷ k) l s = chain-from R (b ∷ k) l s.1
-
--- what holds of each place holds of each member
-pub all-member : (P : ℕ → Type 0) (l : List ℕ) → All P l → (x : ℕ) → is_member x l ≡ true → P x
-all-member P [] a x m = absurd (true≢false (sym m))
-all-member P (y ∷ l) a x m = elim (member-cases x y l m) [ inl e ↦ subst P e (a 0 y (omega arith)) | inr n ↦ all-member P l (λ j d h. a (suc j) d (omega (arith, h))) x n ]
 
 -- the image of a member has what each image has
 pub each-image : (P : ℕ × ℕ → Type 0) (f : ℕ → ℕ × ℕ) (l : List ℕ) → Each P (map f l) → (x : ℕ) → is_member x l ≡ true → P (f x)

@@ -7,6 +7,7 @@ use Rattle.permutations.specs.Members.{is_member}
 use Rattle.permutations.proofs.Members.{member-head}
 use Rattle.permutations.proofs.Mapped.{member-map, map-member}
 use Rattle.permutations.proofs.Turned.{IsTurn-map}
+use Rattle.permutations.proofs.Arrangements.{all-member}
 use Rattle.dart_maps.specs.Map.{twin}
 use Rattle.dart_maps.proofs.Darts.{twin-twin, twin-below, twin-one, twin-back}
 use Rattle.multigraph.specs.Graph.{Multigraph}
@@ -25,7 +26,7 @@ use Rattle.canonical_orders.specs.Contours.{stays_dart, darts_around, IsContour,
 use Rattle.canonical_orders.specs.Order.{IsStacked}
 use Rattle.stacked_maps.specs.Drawn.{contour_points, start_of, end_of, IsEndOf, MeetAtEnds, IsDrawnUnder, OverlooksAll}
 use Rattle.stacked_maps.specs.Laws.{StackingKeepsDrawings}
-use Rattle.stacked_maps.proofs.Lists.{all-member, each-image, rises-images, counter-turn}
+use Rattle.stacked_maps.proofs.Lists.{each-image, rises-images, counter-turn}
 use Rattle.stacked_maps.proofs.Darts.{stays-from, stays-parts, stays-twin, member-around, around-turn}
 use Rattle.stacked_maps.proofs.Corners.{stretch-within}
 use Rattle.stacked_maps.proofs.Cuts.{IsCut, removal-cuts, head-on, contour-tails}
@@ -58,7 +59,7 @@ module _ (m : ℕ) (h : Multigraph) (next previous : ℕ → ℕ) (base : ℕ) (
   of-before u i = elim (or_cases (after u) (u == w) (sym (s.others u) ∙ i)) [ inl a ↦ inl a | inr e ↦ inr (eqb-true u w e) ]
 
   arm-in : (e : ℕ) → is_member e arms ≡ true → (e < 2 * m) × (tail h e ≡ w)
-  arm-in = all-member (λ e. (e < 2 * m) × (tail h e ≡ w)) arms s.within
+  arm-in = λ x. all-member (λ e. (e < 2 * m) × (tail h e ≡ w)) arms x s.within
 
   arm-first : (s.arm < 2 * m) × (tail h s.arm ≡ w)
   arm-first = arm-in s.arm (member-head s.arm s.arms)
@@ -204,7 +205,7 @@ module _ (m : ℕ) (h : Multigraph) (next previous : ℕ → ℕ) (base : ℕ) (
           around-y = goes-around m h next previous t base after later at k d v o.first o.last cut.left o.inner cut.right cut.old o.overlooks up y j within.0 within.1
 
           more : map E (darts_around m h next before y) ≡ map E (darts_around m h next after y) ++ v ∷ []
-          more = ap (map E) (all-member (λ e. (y : ℕ) → is_member y later ≡ true → tail h y ≡ tail h (twin e) → darts_around m h next before y ≡ darts_around m h next after y ++ twin e ∷ []) arms s.put f i y j (q ∙ sym p))
+          more = ap (map E) (all-member (λ e. (y : ℕ) → is_member y later ≡ true → tail h y ≡ tail h (twin e) → darts_around m h next before y ≡ darts_around m h next after y ++ twin e ∷ []) arms f s.put i y j (q ∙ sym p))
               ∙ map-append E (darts_around m h next after y) (twin f ∷ [])
               ∙ ap (λ (u : ℕ). map E (darts_around m h next after y) ++ at u ∷ []) (ap (tail h) (twin-twin f) ∙ (arm-in f i).1)
 

@@ -1,12 +1,11 @@
 -- Edges around the vertices of a component, dealt to its blocks and cut up at the vertices of each.
 use Rattle.std.proofs.Common.{◌≡◌, ℕ, ◌+◌, ◌-◌, ◌<◌, ◌≤◌, inl, inr, Bool, true, false, ◌==◌, List, [], ◌∷◌, ◌++◌, length, map, filter, take, drop, flat_map, get_or, slice_index, slice_index_or, slice_set, refl, sym, ap, ap₂, ◌∙◌, subst, arith, eqb-true}
 use Rattle.std.proofs.lemmas.Bool.{cases_Bool, cases_eq, both_ways, eq-eqb, ne_eqb}
-use Rattle.std.proofs.lemmas.List.{take_at, drop_at, length-drop, take_more, drop_more, length-map, length-append, map-append, get_or-map, get_or_default, get_or-take, length-take-le, append_assoc, append-nil, get_or-set_same, get_or-set_other}
+use Rattle.std.proofs.lemmas.List.{take_at, drop_at, length-drop, take_more, drop_more, length-map, length-append, map-append, get_or-map, get_or-take, length-take-le, append_assoc, append-nil, get_or-set_same, get_or-set_other}
 use Rattle.std.specs.List.{slice_range}
 use Rattle.std.proofs.lemmas.List.Folds.{drop_split}
 use Rattle.std.proofs.lemmas.List.Elements.{filter-append}
 use Rattle.std.proofs.lemmas.List.Sorted.{length_permutation}
-use Rattle.std.proofs.lemmas.List.Kept.{AllPairs-filter}
 use Rattle.permutations.specs.Members.{is_member, place_of}
 use Rattle.permutations.proofs.Members.{member-head, member-tail, member-append_cases}
 use Rattle.permutations.proofs.Filter.{filter-yes, filter-no, member-filter_parts, filter-member}
@@ -30,13 +29,9 @@ use Rattle.whole_embed.proofs.Assembly.{assembled}
 use Rattle.whole_embed.proofs.Told.{round-edge, round-member}
 use Rattle.whole_embed.proofs.Mapping.{no-members}
 use Rattle.whole_embed.proofs.WholeParts.{list-for}
+use Rattle.whole_embed.proofs.Components.{filter-rises}
 use Rattle.whole_convert.specs.Led.{degree_in, total, cut_up, IsDealt, AreWithin}
 use Rattle.whole_convert.proofs.PartOf.{lists_in, IsPartOf, parts-plane}
-
--- increasing numbers that pass a test increase
-filter-rises : (p : ℕ → Bool) (l : List ℕ) → Rises l → Rises (filter p l)
-filter-rises p l r i j less within = AllPairs-filter (λ (x y : ℕ). x < y) p l
-    (λ i j d a b. omega (arith, r i j a b, get_or_default l i d 0 (omega (arith, a, b)), get_or_default l j d 0 b)) i j 0 less within
 
 -- lists one after the other, cut up as long as they are
 pub cut-pieces : (degree : ℕ → ℕ) (f : ℕ → List ℕ) (vs : List ℕ) → ((v : ℕ) → is_member v vs ≡ true → length (f v) ≡ degree v) → cut_up degree vs (flat_map f vs) ≡ map (λ v. (v, f v)) vs

@@ -86,7 +86,7 @@ module _ (g : Multigraph) (vertices edges : List ℕ) (within : (i : ℕ) → i 
   }
 
 -- increasing numbers that pass a test increase
-filter-rises : (p : ℕ → Bool) (l : List ℕ) → Rises l → Rises (filter p l)
+pub filter-rises : (p : ℕ → Bool) (l : List ℕ) → Rises l → Rises (filter p l)
 filter-rises p l r i j less within = AllPairs-filter (λ (x y : ℕ). x < y) p l
     (λ i j d a b. omega (arith, r i j a b, get_or_default l i d 0 (omega (arith, a, b)), get_or_default l j d 0 b)) i j 0 less within
 

@@ -5,7 +5,7 @@ use Rattle.std.proofs.lemmas.List.{ext_get_or, get_or_default}
 use Rattle.permutations.specs.Members.{is_member, is_distinct, place_of}
 use Rattle.permutations.specs.Cyclic.{first_or, from_least}
 use Rattle.permutations.proofs.Mapped.{map-member, distinct-map}
-use Rattle.permutations.proofs.Places.{place-of, place-below, place-holds, place-at, told-distinct}
+use Rattle.permutations.proofs.Places.{place-of, place-below, place-holds, place-at}
 use Rattle.permutations.proofs.Arrangements.{permutation-member, permutation-distinct, member-at}
 use Rattle.permutations.proofs.NormalForm.{written-first}
 use Rattle.multigraph.specs.Graph.{Multigraph, edge_count, incident_edges}
@@ -15,10 +15,7 @@ use Rattle.multigraph.proofs.Incident.{incident-edge, incident-rises}
 use Rattle.rotations.specs.Rotation.{order_at, IsCyclicOrder, IsRotationSystem}
 use Rattle.whole_embed.specs.Around.{outer_at}
 use Rattle.whole_embed.proofs.Mapping.{permuted-map, first-map, map-injective}
-
--- an increasing list has no number twice
-pub rises-distinct : (l : List ℕ) → Rises l → is_distinct l ≡ true
-rises-distinct l r = told-distinct l (λ i j a b e. rises-once l r i j a b e)
+use Rattle.whole_embed.proofs.Outer.{rises-distinct}
 
 module _ (part : GraphPart) (numbered : IsNumbered part) where
   abbrev g : Multigraph
