@@ -226,12 +226,16 @@ fn place_of(list: &[u32], x: u32) -> u32
     place_in(list, x).unwrap()
 }
 
-// The place of a number in an increasing list; `None` where the list does not have it.
+// The place of a number in an increasing list; `None` where the list does not have it. Of a list that has all numbers up to x the place is
+// x; else it is searched.
 fn place_in(list: &[u32], x: u32) -> Option<u32>
     requires rising { Rises list.now }
     requires few { length list.now < 2 ^ 32 }
     ensures { IsPlace list.now x result }
 {
+    if list.get(x as usize) == Some(&x) {
+        return Some(x);
+    }
     match list.binary_search(&x) {
         Ok(i) => Some(i as u32),
         Err(_) => None,
