@@ -1,10 +1,10 @@
 // A bond permuted to given keys, if allowed.
 
-ghost use Rattle.std.specs.Prelude.{◌≡◌, ◌<◌, ◌++◌, ◌↔◌, true, false, length, map, take, drop, slice_index_or, IfOk, IfErr, IsTrue, IsPermutation};
+ghost use Rattle.std.specs.Prelude.{◌≡◌, ◌<◌, ◌++◌, ◌↔◌, true, false, length, map, IfOk, IfErr, IsTrue, IsPermutation};
 ghost use Rattle.permutations.specs.Members.{is_member, is_distinct};
 ghost use Rattle.pair_split.specs.declared.components.Kind.TheVariants.{P};
-ghost use Rattle.skeletons.specs.Items.{item_key, node_keys};
-ghost use Rattle.skeletons.specs.Moves.{permute, IsNodeOfKind};
+ghost use Rattle.skeletons.specs.Items.{item_key};
+ghost use Rattle.skeletons.specs.Moves.{permute};
 ghost use Rattle.skel_embed.specs.Block.{lock_at};
 ghost use Rattle.embed_moves.specs.Made.{IsMade, IsPermuteRefusal};
 

@@ -1,5 +1,5 @@
 -- What graphs with their blocks in the plane and walks through components keep.
-use Rattle.std.proofs.Common.{◌≡◌, ℕ, ◌+◌, ◌<◌, inl, inr, true, List, [], ◌∷◌, ◌++◌, length, slice_index, slice_index_or, slice_set, Contains, None, Some, refl, sym, ap, ◌∙◌, subst, arith}
+use Rattle.std.proofs.Common.{◌≡◌, ℕ, ◌+◌, ◌<◌, inl, inr, true, List, [], ◌∷◌, ◌++◌, length, slice_index, slice_index_or, slice_set, Contains, None, refl, sym, ap, ◌∙◌, subst, arith}
 use Rattle.std.proofs.lemmas.Bool.{cases_eq}
 use Rattle.std.proofs.lemmas.List.{get_or_append_left, length-append, length-set, get_or-set_same, get_or-set_other}
 use Rattle.std.proofs.Math.Seq.{get_or-append_seam}
@@ -11,13 +11,11 @@ use Rattle.rotations.specs.Rotation.{IsCyclicOrder}
 use Rattle.faces.specs.Euler.{IsPlaneSystem}
 use Rattle.blocks.specs.Blocks.{BlockStructure, block_at, IsBlockStructure}
 use Rattle.skeletons.specs.Items.{IsBlockTree}
-use Rattle.skel_embed.specs.Block.{BlockState}
 use Rattle.arrangements.proofs.Laws.{arrangements_are_listed}
 use Rattle.whole_embed.specs.declared.members.Member.{Member}
 use Rattle.whole_embed.specs.Component.{Component, BlockInPlane, component_of, AreInPlane, IsComponentInPlane}
 use Rattle.whole_embed.specs.Around.{edges_around, block_with, block_order, arrangements_around}
 use Rattle.whole_embed.specs.Cuts.{CutState, no_part, in_plane, member_at, blocks_in, HavePlanes, set_around}
-use Rattle.whole_embed.specs.Whole.{AreArranged}
 use Rattle.whole_embed.specs.Keeping.{AreFirstTo}
 use Rattle.whole_embed.proofs.Components.{block-in}
 use Rattle.whole_embed.proofs.Assembly.{assembled}

@@ -1,13 +1,12 @@
 -- Darts, and the face step of a rotation system, which permutes them.
-use Rattle.std.proofs.Common.{◌≡◌, ℕ, ◌+◌, ◌*◌, ◌/◌, ◌%◌, ◌<◌, ◌≢◌, true, false, ◌==◌, List, inl, inr, refl, sym, ap, ap₂, ◌∙◌, arith}
-use Rattle.std.proofs.lemmas.Bool.{eq-eqb, ne_eqb, cases_eq}
+use Rattle.std.proofs.Common.{◌≡◌, ℕ, ◌+◌, ◌*◌, ◌/◌, ◌%◌, ◌<◌, ◌≢◌, true, ◌==◌, List, sym, ap, ap₂, ◌∙◌}
 use Rattle.permutations.specs.Members.{is_member, is_distinct}
 use Rattle.permutations.specs.Cyclic.{successor, predecessor}
 use Rattle.permutations.specs.Permutation.{Permutes}
 use Rattle.permutations.proofs.Successor.{successor-member, predecessor-member, predecessor-successor, successor-predecessor}
 use Rattle.permutations.proofs.Arrangements.{permutation-member, permutation-distinct}
-use Rattle.multigraph.specs.Graph.{Multigraph, IsGraph, edge_count, ends_of, is_end, other_end, incident_edges}
-use Rattle.multigraph.proofs.OtherEnd.{is_end-first, is_end-second, is_end-cases, other_end-is_end, other_end-in, other_end-twice, end-in}
+use Rattle.multigraph.specs.Graph.{Multigraph, IsGraph, edge_count, is_end, other_end, incident_edges}
+use Rattle.multigraph.proofs.OtherEnd.{other_end-is_end, other_end-in, other_end-twice, end-in}
 pub use Rattle.multigraph.proofs.DartEnds.{dart-edge, tail-end, dart_from-edge, dart_from-below, dart_from-first, dart_from-second, tail-even, tail-odd, tail-first, tail-second, dart_from-tail, dart_from-of_dart}
 use Rattle.rotations.specs.Rotation.{order_at, IsRotationSystem}
 use Rattle.rotations.proofs.Membership.{incident-distinct, incident-member, member-edge, member-end}

@@ -1,15 +1,15 @@
 -- The faces that are listed are the orbits of the face step: each dart is in exactly one of them, and there once.
-use Rattle.std.proofs.Common.{◌≡◌, ◌≢◌, ℕ, zero, suc, ◌+◌, ◌*◌, ◌/◌, ◌<◌, ◌≤◌, true, false, not, ◌&&◌, List, [], ◌∷◌, ◌++◌, length, get_or, map, filter, inl, inr, refl, sym, ap, ap₂, ◌∙◌, subst, arith, add-one}
-use Rattle.std.proofs.lemmas.Bool.{cases_Bool, cases_order, cases_eq, and_parts, and_from, both_ways}
+use Rattle.std.proofs.Common.{◌≡◌, ◌≢◌, ℕ, zero, suc, ◌+◌, ◌*◌, ◌/◌, ◌<◌, ◌≤◌, true, false, not, ◌&&◌, List, [], ◌∷◌, ◌++◌, length, get_or, map, filter, inl, inr, refl, sym, ap, ◌∙◌, subst, arith, add-one}
+use Rattle.std.proofs.lemmas.Bool.{cases_Bool, cases_order, and_parts, and_from, both_ways}
 use Rattle.std.proofs.lemmas.List.{map-append, length-map, get_or-map}
 use Rattle.permutations.specs.Count.{count, some, least}
-use Rattle.permutations.specs.Permutation.{iterate, reaches, same_orbit}
+use Rattle.permutations.specs.Permutation.{iterate, reaches}
 use Rattle.permutations.specs.Ring.{images, ring, orbit_length}
 use Rattle.permutations.specs.Members.{is_member, is_distinct, place_of}
 use Rattle.permutations.proofs.Count.{count-all}
 use Rattle.permutations.proofs.Injection.{count-bijection}
-use Rattle.permutations.proofs.Search.{some-from, some-none, none-some, least-below, least-passes, least-before, least-is}
-use Rattle.permutations.proofs.Places.{place-of, place-below, place-holds, same-place, place-at, told-distinct}
+use Rattle.permutations.proofs.Search.{some-from, none-some, least-below, least-passes, least-before, least-is}
+use Rattle.permutations.proofs.Places.{place-of, place-below, place-holds, place-at, told-distinct}
 use Rattle.permutations.proofs.Arrangements.{member-at}
 use Rattle.permutations.proofs.Filter.{member-filter_parts, filter-member, distinct-filter}
 use Rattle.permutations.proofs.Iterates.{orbit-reaches}

@@ -6,7 +6,7 @@ use Rattle.permutations.specs.Count.{count, some}
 use Rattle.permutations.specs.Relation.{connected, class_count}
 use Rattle.permutations.specs.Permutation.{reaches}
 pub use Rattle.multigraph.specs.Darts.{tail, dart_from, dart_count}
-use Rattle.multigraph.specs.Graph.{Multigraph, edge_count, ends_of, other_end, incident_edges}
+use Rattle.multigraph.specs.Graph.{Multigraph, edge_count, other_end, incident_edges}
 use Rattle.permutations.specs.Cyclic.{successor}
 use Rattle.rotations.specs.Rotation.{order_at, IsRotationSystem}
 

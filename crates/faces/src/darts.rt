@@ -2,8 +2,8 @@
 
 ghost use Rattle.multigraph.specs.Darts.{dart_count, dart_from};
 ghost use Rattle.faces.specs.Trace.{darts_in_order, pair_of};
-ghost use Rattle.multigraph.specs.Graph.{IsGraph, IsWithinLimits, edge_count, incident_edges, max_darts};
-ghost use Rattle.std.specs.Prelude.{◌++◌, ◌<◌, ◌≡◌, IfOk, map, ◌*◌, ◌≤◌, ℕ};
+ghost use Rattle.multigraph.specs.Graph.{IsGraph, IsWithinLimits, edge_count, incident_edges};
+ghost use Rattle.std.specs.Prelude.{◌++◌, ◌<◌, ◌≡◌, IfOk, map, ◌*◌, ◌≤◌};
 
 use multigraph::{Graph, dart_from, tail};
 use std::alloc::{AllocError, Global};

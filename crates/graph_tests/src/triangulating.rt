@@ -2,7 +2,7 @@
 
 ghost use Rattle.std.specs.Bool.{OnTrue};
 ghost use Rattle.std.specs.Prelude.{◌≡◌, ◌<◌, ℕ, true, IfOk, IfSome};
-ghost use Rattle.multigraph.specs.Graph.{IsGraph, edge_count, ends_of};
+ghost use Rattle.multigraph.specs.Graph.{edge_count, ends_of};
 ghost use Rattle.graph_theory.specs.Triconnected.{IsSimple, SameEnds};
 ghost use Rattle.canonical_orders.specs.State.{IsTriangulatedMap};
 

@@ -16,5 +16,4 @@ pub mod Final
 pub mod RowsMade
 pub mod BondNumbers
 pub mod PolygonSteps
-pub mod LinkSearch
 pub mod FaceLengths

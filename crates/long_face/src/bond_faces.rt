@@ -7,8 +7,8 @@ ghost use Rattle.multigraph.specs.Part.{Rises};
 ghost use Rattle.skeletons.specs.Items.{item_key, nth_item};
 ghost use Rattle.long_face.specs.Bonds.{AreBondNumbers};
 
-use crate::links::item_with_key;
 use pair_split::Item;
+use skel_compose::item_with_key;
 use skel_decompose::renew;
 use std::alloc::AllocError;
 

@@ -1,13 +1,13 @@
 // The items of two linked nodes that are the link and the link back.
 
-ghost use Rattle.std.specs.Prelude.{◌≡◌, ◌<◌, ◌^◌, ℕ, length, map};
+ghost use Rattle.std.specs.Prelude.{◌≡◌, ◌<◌, ◌^◌, ℕ, length};
 ghost use Rattle.multigraph.specs.Graph.{IsWithinLimits, Multigraph};
-ghost use Rattle.multigraph.specs.Part.{Rises};
 ghost use Rattle.pair_split.specs.Tutte.{node_at, node_item};
 ghost use Rattle.pair_split.specs.declared.components.What.TheVariants.{Link};
-ghost use Rattle.skeletons.specs.Items.{IsBlockTree, item_key, nth_item};
+ghost use Rattle.skeletons.specs.Items.{IsBlockTree, nth_item};
 
 use pair_split::{Item, What};
+use skel_compose::item_with_key;
 use spqr_tree::Tree;
 
 // The place of the item that is a link to node j, one after the other.
@@ -23,20 +23,6 @@ pub(crate) fn link_to(items: &[Item], j: u32) -> u32
         }
     }
     unreachable!()
-}
-
-// The place of the item with this key among items in increasing order of their keys, by binary search.
-pub(crate) fn item_with_key(items: &[Item], key: u32) -> u32
-    requires rising { Rises (map item_key items.now) }
-    requires few { length items.now < 2 ^ 32 }
-    requires held { (i : ℕ) × (i < length items.now) × ((nth_item items.now i).key ≡ key) }
-    ensures within { result < length items.now }
-    ensures key { (nth_item items.now result).key ≡ key }
-{
-    match items.binary_search_by_key(&key, |item| item.key) {
-        Ok(place) => place as u32,
-        Err(_) => unreachable!(),
-    }
 }
 
 // The item of node j that is the link back to node k, where item i of node k is the link to j: its key is the least of the other items

@@ -9,9 +9,7 @@ use Rattle.multigraph.proofs.OtherEnd.{is_end-from_first, is_end-from_second}
 use Rattle.graph_theory.specs.Path.{IsCycle}
 use Rattle.graph_theory.specs.Block.{SameBlock, IsOneBlock}
 use Rattle.faces.specs.Maps.{dart_after, dart_before}
-use Rattle.faces.proofs.MapSteps.{map-permutes, tail-in}
-use Rattle.faces.proofs.MapVertices.{map-vertex}
-use Rattle.faces.proofs.MapCounts.{plane-map, map-plane}
+use Rattle.faces.proofs.MapCounts.{map-plane}
 use Rattle.faces.proofs.MapToLists.{map-orders}
 use Rattle.made_graph.specs.Made.{subdivided, doubled, with_path, with_tetrahedron}
 use Rattle.made_graph.specs.Laws.{IsPlanarBlock, KeepsPlanarBlocks}

@@ -1,5 +1,5 @@
 // The lines of the summary, each appended to a text.
-ghost use Rattle.std.specs.Prelude.{◌≡◌, ◌++◌, IfOk, OnOk, codes, decimal};
+ghost use Rattle.std.specs.Prelude.{◌≡◌, ◌++◌, IfOk, OnOk, codes};
 ghost use Rattle.made_summary.specs.Text.{count_text, made_line, nodes_line, choice_line};
 
 use crate::kinds::Kinds;

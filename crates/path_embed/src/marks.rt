@@ -1,6 +1,6 @@
 // Marks of numbers, and the numbers that have one.
 
-ghost use Rattle.std.specs.Prelude.{◌≡◌, ◌∷◌, ◌++◌, ◌<◌, [], ℕ, filter, length, if◌then◌else◌, IfOk};
+ghost use Rattle.std.specs.Prelude.{◌≡◌, ◌∷◌, ◌++◌, ◌<◌, [], filter, length, if◌then◌else◌, IfOk};
 ghost use Rattle.multigraph.specs.Graph.{numbers_below};
 ghost use Rattle.multigraph.specs.Marks.{is_marked};
 

@@ -1,11 +1,11 @@
 // The corners that fit a bridge. The corner of a drawn dart lies between this dart and the next drawn one around its vertex, in the
 // face of its twin.
 
-ghost use Rattle.std.specs.Prelude.{◌≡◌, ◌≢◌, ◌==◌, ◌<◌, ℕ, true, length, filter, slice_index, IfOk, IsTrue};
+ghost use Rattle.std.specs.Prelude.{◌≡◌, ◌≢◌, ◌==◌, ◌<◌, ℕ, true, length, filter, slice_index, IfOk};
 ghost use Rattle.permutations.specs.Members.{is_member};
 ghost use Rattle.multigraph.specs.Graph.{edge_count};
 ghost use Rattle.multigraph.specs.Marks.{is_marked};
-ghost use Rattle.multigraph.specs.Darts.{dart_count, tail, twin};
+ghost use Rattle.multigraph.specs.Darts.{tail, twin};
 ghost use Rattle.path_rotation.specs.Forced.{AreTables};
 ghost use Rattle.path_rotation.specs.Fitting.{AreDartsAt, AreFitting, AreLabels, IsFoot, HaveRoom};
 

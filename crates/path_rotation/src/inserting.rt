@@ -2,12 +2,11 @@
 
 ghost use Rattle.std.specs.Prelude.{◌≡◌, ◌+◌, ◌*◌, ◌/◌, ◌<◌, ◌||◌, ◌∷◌, ℕ, true, if◌then◌else◌, List, length, slice_index};
 ghost use Rattle.permutations.specs.Members.{is_member};
-ghost use Rattle.multigraph.specs.Graph.{edge_count};
 ghost use Rattle.multigraph.specs.Marks.{is_marked};
 ghost use Rattle.multigraph.specs.Darts.{dart_count, tail, twin};
 ghost use Rattle.graph_theory.specs.Path.{IsWalk, walk_vertices};
 ghost use Rattle.path_separation.specs.Drawn.{darts_along};
-ghost use Rattle.path_rotation.specs.Forced.{AreTables, LeadsOff, IsPathDrawn};
+ghost use Rattle.path_rotation.specs.Forced.{AreTables, IsPathDrawn};
 ghost use Rattle.path_rotation.specs.Fitting.{AreLabels};
 ghost use Rattle.path_rotation.specs.Insertion.{threaded};
 

@@ -1,7 +1,7 @@
 // A last look at each foot, after a round in which nothing was drawn: all its attachments are found, and whether it fits two corners.
 // A foot is an undrawn dart whose tail is on. A look takes time linear in the graph for each corner that it tries.
 
-ghost use Rattle.std.specs.Prelude.{◌≡◌, ◌≢◌, ◌<◌, ◌⊎◌, ℕ, Option, None, true, false, length, filter, slice_index, IfOk, IfSome};
+ghost use Rattle.std.specs.Prelude.{◌≡◌, ◌≢◌, ◌<◌, ◌⊎◌, ℕ, Option, None, true, false, length, filter, IfOk, IfSome};
 ghost use Rattle.permutations.specs.Members.{is_member};
 ghost use Rattle.multigraph.specs.Graph.{edge_count, numbers_below};
 ghost use Rattle.multigraph.specs.Marks.{is_marked};

@@ -1,7 +1,6 @@
 // The way from an attachment back to the first dart of a bridge, checked edge by edge.
 
 ghost use Rattle.std.specs.Prelude.{◌≡◌, ◌≢◌, ◌<◌, true, length, IfOk, IfSome};
-ghost use Rattle.multigraph.specs.Graph.{edge_count};
 ghost use Rattle.multigraph.specs.Marks.{is_marked};
 ghost use Rattle.multigraph.specs.Darts.{dart_count, tail};
 ghost use Rattle.path_rotation.specs.Search.{LeadsNearer, IsWayFound};

@@ -3,7 +3,6 @@
 ghost use Rattle.std.specs.Prelude.{◌≡◌, ◌+◌, ◌*◌, ◌<◌, ◌≤◌, ◌^◌, ℕ, length, IfOk, slice_index, slice_index_or};
 ghost use Rattle.canonical_orders.specs.Order.{stays_after};
 ghost use Rattle.stacked_maps.specs.Drawn.{IsDrawnUnder};
-ghost use Rattle.shift_method.specs.Shapes.{ShapeState};
 ghost use Rattle.shift_method.specs.Peeled.{IsPeeled, contour_at};
 
 use crate::shape::Shape;

@@ -1,6 +1,6 @@
 // The numbers that are kept of each vertex while the vertices are placed.
 
-ghost use Rattle.std.specs.Prelude.{◌≡◌, ◌+◌, ◌*◌, ◌<◌, ◌≤◌, ◌^◌, ℕ, true, List, length, IfOk, slice_index};
+ghost use Rattle.std.specs.Prelude.{◌≡◌, ◌+◌, ◌*◌, ◌<◌, ◌≤◌, ◌^◌, ℕ, true, length, IfOk, slice_index};
 ghost use Rattle.permutations.specs.Members.{is_member};
 ghost use Rattle.shift_method.specs.Shapes.{ShapeState, IsShapeOf, fresh, total, widened, covered, with_widened, with_covered, raised, with_gap, placed, all_placed, CanStack};
 ghost use Rattle.shift_method.specs.Peeled.{IsPeeled};

@@ -1,7 +1,7 @@
 // The positions of all vertices, from those of the two ends and the vertex above them.
 
-ghost use Rattle.std.specs.Prelude.{◌≡◌, ◌+◌, ◌*◌, ◌<◌, ◌≤◌, ◌^◌, ℕ, true, List, length, IfOk, slice_index};
-ghost use Rattle.shift_method.specs.Shapes.{ShapeState, IsShapeOf};
+ghost use Rattle.std.specs.Prelude.{◌≡◌, ◌+◌, ◌*◌, ◌<◌, ◌≤◌, ◌^◌, ℕ, length, IfOk, slice_index};
+ghost use Rattle.shift_method.specs.Shapes.{IsShapeOf};
 ghost use Rattle.shift_method.specs.Peeled.{IsPeeled, IsInnerHead, KeepsAll, removed_at, ArePositions};
 
 use crate::shape::Shape;

@@ -32,5 +32,6 @@ mod walking;
 pub use composing::compose;
 pub use homes::{homes_of, put_homes};
 pub use rows::{bond_row, next_edges, polygon_row};
+pub use searching::item_with_key;
 pub use sums::end_sums;
 pub use table::item_place;

@@ -6,8 +6,8 @@ ghost use Rattle.skeletons.specs.Items.{item_key, nth_item};
 
 use pair_split::Item;
 
-// The place of the item with this key among items in increasing order of their keys.
-pub(crate) fn item_with_key(items: &[Item], key: u32) -> u32
+/// The place of the item with this key among items in increasing order of their keys, by binary search.
+pub fn item_with_key(items: &[Item], key: u32) -> u32
     requires rising { Rises (map item_key items.now) }
     requires few { length items.now < 2 ^ 32 }
     requires held { (i : ℕ) × (i < length items.now) × ((nth_item items.now i).key ≡ key) }

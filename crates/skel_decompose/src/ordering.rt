@@ -8,11 +8,10 @@
 ghost use Rattle.std.specs.Prelude.{◌≡◌, ◌<◌, ◌++◌, ℕ, true, length, slice_index_or, IfOk, OnOk};
 ghost use Rattle.permutations.specs.Members.{is_distinct, is_member};
 ghost use Rattle.multigraph.specs.Graph.{Multigraph, IsWithinLimits};
-ghost use Rattle.multigraph.specs.Marks.{is_marked};
-ghost use Rattle.pair_split.specs.Tutte.{components, node_at};
+ghost use Rattle.pair_split.specs.Tutte.{components};
 ghost use Rattle.skeletons.specs.Items.{IsBlockTree, nth_item};
 ghost use Rattle.spqr_tree.specs.Absent.{absent};
-ghost use Rattle.spqr_tree.specs.Keys.{parent_at, AreOrdered};
+ghost use Rattle.spqr_tree.specs.Keys.{AreOrdered};
 ghost use Rattle.skel_decompose.specs.Orders.{HangFromFirst, IsOrderOf, far_end};
 ghost use Rattle.skel_decompose.specs.Ways.{AreDown, IsClimbed, IsFalling, others_of, turned};
 

@@ -1,7 +1,6 @@
 // The table of what follows each item of each node around each of its ends (`skel_compose::item_place`), before it is filled.
 
 ghost use Rattle.std.specs.Prelude.{◌+◌, ◌<◌, length, IfOk};
-ghost use Rattle.skel_compose.specs.Followers.{IsTable};
 ghost use Rattle.skel_decompose.specs.Survey.{AreRows};
 
 use crate::lists::FlatLists;

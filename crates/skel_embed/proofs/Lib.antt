@@ -10,7 +10,6 @@ pub mod ArrangeSteps
 pub mod KeptLists
 mod Flat
 pub mod BondMoves
-mod KeySearch
 mod Selected
 mod FirstRows
 mod RowTables

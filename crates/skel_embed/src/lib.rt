@@ -32,7 +32,6 @@
 //   Fans           fan-is: the rotation system with the edges in order at vertex 0, and in reverse order at the others
 //   FirstRows      first-polygon, first-bond, first-rigid: what follows each item in a first member, and its choice
 //   RowTables      have-more, chosen-more, table-of: the lists of all nodes are a table
-//   KeySearch      searched: a binary search by key among the items of a node
 //   Selected       rigid-mirrored, bond-changed: members with other choices; all-chosen: the one system that has them
 //   States         state-moved, state-mirrored: the invariant after a move
 #![tactic(auto)]

@@ -18,7 +18,7 @@ use crate::choices::Choices;
 use multigraph::{FlatLists, Graph};
 use pair_split::{Item, Kind};
 use rotations::Rotation;
-use skel_compose::{bond_row, compose, next_edges};
+use skel_compose::{bond_row, compose, item_with_key, next_edges};
 use skel_decompose::{followers, member_of};
 use spqr_tree::Tree;
 use std::alloc::{AllocError, Global};
@@ -30,10 +30,7 @@ fn item_with(items: &[Item], key: u32) -> u32
     requires held { is_member key (map item_key items.now) ≡ true }
     ensures { result ≡ place_of (map item_key items.now) key }
 {
-    match items.binary_search_by_key(&key, |item| item.key) {
-        Ok(place) => place as u32,
-        Err(_) => unreachable!(),
-    }
+    item_with_key(items, key)
 }
 
 // The numbers of the items with these keys, in the order of the keys.

@@ -1,7 +1,7 @@
 // Beyond which item of a node at a vertex there is most, and beyond which least. Groups of many edges are left where they are where a node
 // is moved; which they are changes no result.
 
-ghost use Rattle.std.specs.Prelude.{◌≡◌, ◌<◌, ℕ, true, length};
+ghost use Rattle.std.specs.Prelude.{◌≡◌, ◌<◌, true, length};
 ghost use Rattle.permutations.specs.Members.{is_member};
 ghost use Rattle.rotations.specs.Rotation.{order_at, IsRotationSystem};
 ghost use Rattle.skeletons.specs.Items.{IsBlockTree};

@@ -1,7 +1,7 @@
 -- Faces of the skeletons that fit together into one face of the block.
 use Rattle.std.specs.Prelude.{◌≡◌, ◌≢◌, ℕ, ◌+◌, ◌/◌, ◌<◌, ◌⊎◌, Bool, true, List, length}
 use Rattle.dart_maps.specs.Map.{twin}
-use Rattle.pair_split.specs.Tutte.{Node, node_at, node_item}
+use Rattle.pair_split.specs.Tutte.{Node}
 use Rattle.skeletons.specs.Families.{skeleton_graph, system_at}
 use Rattle.skeleton_faces.specs.Faces.{on_one_face, skeleton_weight, IsSkeletonDart, AreAcross}
 

@@ -1,11 +1,11 @@
 -- Faces of rotation systems, by their darts, and the weights of the items along them.
-use Rattle.std.specs.Prelude.{◌≡◌, ℕ, ◌+◌, ◌*◌, ◌/◌, ◌%◌, ◌<◌, ◌≤◌, Bool, true, false, ◌||◌, cond, List, length}
+use Rattle.std.specs.Prelude.{◌≡◌, ℕ, ◌+◌, ◌*◌, ◌/◌, ◌%◌, ◌<◌, ◌≤◌, Bool, ◌||◌, cond, List, length}
 use Rattle.permutations.specs.Count.{count, sum_below}
 use Rattle.multigraph.specs.Graph.{Multigraph, edge_count}
-use Rattle.dart_maps.specs.Map.{twin, same_face}
+use Rattle.dart_maps.specs.Map.{same_face}
 use Rattle.faces.specs.Euler.{dart_count}
 use Rattle.faces.specs.Maps.{dart_after}
-use Rattle.pair_split.specs.Tutte.{Node, node_at, node_item}
+use Rattle.pair_split.specs.Tutte.{Node, node_item}
 use Rattle.pair_split.specs.declared.components.What.TheVariants.{Real, Link}
 use Rattle.skeletons.specs.Families.{skeleton_graph, system_at}
 

@@ -20,7 +20,6 @@ use Rattle.pair_split.specs.declared.components.Comp.{Comp}
 use Rattle.pair_split.proofs.Subtrees.{link-in}
 use Rattle.pair_split.proofs.TreeSides.{link-from, link-back, link-differs}
 use Rattle.pair_split.proofs.Groups.{what-cases, same-end_back, side-other, in_group-link, group-some}
-use Rattle.pair_split.proofs.NodeParts.{node-kind}
 use Rattle.skeletons.specs.Items.{has_vertex, IsBlockTree}
 use Rattle.skeletons.specs.Round.{StandInRuns}
 use Rattle.faces.specs.Euler.{IsPlaneSystem}

@@ -4,10 +4,9 @@ use Rattle.std.proofs.lemmas.Bool.{cases_lt, cases_order}
 use Rattle.std.proofs.lemmas.List.{ext_get_or}
 use Rattle.multigraph.specs.Graph.{Multigraph}
 use Rattle.graph_theory.specs.Block.{IsOneBlock}
-use Rattle.pair_split.specs.Split.{component_at, item_at, side, LinksTo}
+use Rattle.pair_split.specs.Split.{item_at, side, LinksTo}
 use Rattle.pair_split.specs.Tutte.{Node, components, node_at, node_item, is_before, IsTutte}
-use Rattle.pair_split.specs.declared.components.Kind.{Kind}
-use Rattle.pair_split.specs.declared.components.Kind.TheVariants.{S, P, B}
+use Rattle.pair_split.specs.declared.components.Kind.TheVariants.{B}
 use Rattle.pair_split.specs.declared.components.Piece.{Piece}
 use Rattle.pair_split.specs.declared.components.Item.{Item}
 use Rattle.pair_split.specs.declared.components.What.{What}
@@ -15,7 +14,7 @@ use Rattle.pair_split.specs.declared.components.What.TheVariants.{Real, Link}
 use Rattle.pair_split.proofs.Groups.{side-other}
 use Rattle.pair_split.proofs.Subtrees.{link-in}
 use Rattle.pair_split.proofs.TreeSides.{link-back}
-use Rattle.pair_split.proofs.NodeParts.{node-piece, node-kind}
+use Rattle.pair_split.proofs.NodeParts.{node-piece}
 use Rattle.graph_theory.specs.Separation.{AreSameSide}
 use Rattle.tree_unique.specs.Laws.{LinksAreGood, GoodAreLinks, SidesTellLinks, TreesAreEqual}
 use Rattle.tree_unique.proofs.Away.{side-tells, places-tell}

@@ -1,6 +1,6 @@
 // Blocks led along their lists: the last one that can advance does so, and all later ones return to their first members.
 
-ghost use Rattle.std.specs.Prelude.{◌≡◌, ℕ, ◌+◌, ◌<◌, ◌≤◌, true, false, length, slice_index, slice_set, IsSome};
+ghost use Rattle.std.specs.Prelude.{◌≡◌, ℕ, ◌+◌, ◌<◌, ◌≤◌, true, false, length, slice_index, IsSome};
 ghost use Rattle.multigraph.specs.Part.{Rises};
 ghost use Rattle.embed_enum.specs.Walk.{IsNextOf};
 ghost use Rattle.whole_embed.specs.Cuts.{member_at};

@@ -1,8 +1,8 @@
 // A component as a graph of its own, with its blocks and its cut vertices.
 
-ghost use Rattle.std.specs.Prelude.{◌≡◌, ℕ, ◌∷◌, ◌++◌, ◌<◌, ◌==◌, [], length, map, filter, slice_index, if◌then◌else◌, true, false, IfOk, MatchOption};
+ghost use Rattle.std.specs.Prelude.{◌≡◌, ℕ, ◌∷◌, ◌++◌, ◌<◌, ◌==◌, [], length, map, slice_index, if◌then◌else◌, true, false, IfOk, MatchOption};
 ghost use Rattle.permutations.specs.Members.{is_member, place_of};
-ghost use Rattle.multigraph.specs.Graph.{edge_count, IsGraph};
+ghost use Rattle.multigraph.specs.Graph.{edge_count};
 ghost use Rattle.multigraph.specs.Part.{IsNumbered};
 ghost use Rattle.blocks.specs.Blocks.{IsBlockStructure, block_at};
 ghost use Rattle.whole_embed.specs.Component.{Component, component_vertices, has_edge, component_edges, component_blocks, component_cuts, block_of, component_of};

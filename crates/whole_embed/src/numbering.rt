@@ -1,6 +1,6 @@
 // The edges at a vertex with the blocks that they are in: the ranks of the blocks, and what follows an edge in its block.
 
-ghost use Rattle.std.specs.Prelude.{◌≡◌, ℕ, ◌<◌, ◌≤◌, ◌^◌, ◌↔◌, length, map, slice_index, true, Contains, IfOk, Some};
+ghost use Rattle.std.specs.Prelude.{◌≡◌, ℕ, ◌<◌, ◌≤◌, ◌^◌, ◌↔◌, length, map, slice_index, Contains, IfOk, Some};
 ghost use Rattle.permutations.specs.Cyclic.{successor};
 ghost use Rattle.multigraph.specs.Graph.{incident_edges};
 ghost use Rattle.multigraph.specs.Part.{Rises};

@@ -1,11 +1,8 @@
 // Another arrangement at a cut vertex, and why a list is none.
 
-ghost use Rattle.std.specs.Prelude.{◌≡◌, ℕ, ◌<◌, true, false, length, slice_index, IfOk, IfErr, OnErr, MatchOption, Contains, IsPermutation};
+ghost use Rattle.std.specs.Prelude.{◌≡◌, ℕ, ◌<◌, true, length, IfOk, IfErr, OnErr, Contains};
 ghost use Rattle.permutations.specs.Members.{is_member};
 ghost use Rattle.permutations.specs.Cyclic.{from_least};
-ghost use Rattle.arrangements.specs.Arranged.{cross};
-ghost use Rattle.arrangements.specs.Crossings.{IsCrossingOf};
-ghost use Rattle.arrangements.specs.Prefixes.{ForBlocks};
 ghost use Rattle.arrangements.specs.Tables.{rank_in};
 ghost use Rattle.whole_embed.specs.Component.{IsComponentInPlane};
 ghost use Rattle.whole_embed.specs.Around.{arrangements_around};

@@ -1,6 +1,6 @@
 // A walk through the list of the plane rotation systems of a component.
 
-ghost use Rattle.std.specs.Prelude.{◌≡◌, ℕ, ◌+◌, ◌<◌, ◌≤◌, true, false, List, [], length, slice_index_or, Contains};
+ghost use Rattle.std.specs.Prelude.{◌≡◌, ℕ, ◌+◌, ◌<◌, ◌≤◌, true, false, List, [], length};
 ghost use Rattle.skeletons.specs.Lists.{IsRank};
 ghost use Rattle.whole_embed.specs.Component.{IsComponentInPlane};
 ghost use Rattle.whole_embed.specs.Cuts.{blocks_in, HavePlanes};

@@ -1,7 +1,6 @@
 // The rotation system of a component.
 
-ghost use Rattle.std.specs.Prelude.{◌≡◌, ◌<◌, ℕ, true, length, map, slice_index, IfOk, Some};
-ghost use Rattle.permutations.specs.Members.{is_member};
+ghost use Rattle.std.specs.Prelude.{◌≡◌, ◌<◌, length, map, slice_index, IfOk, Some};
 ghost use Rattle.faces.specs.Euler.{IsPlaneSystem};
 ghost use Rattle.skel_embed.specs.Block.{BlockState};
 ghost use Rattle.skel_embed.specs.Taken.{IsGiven};

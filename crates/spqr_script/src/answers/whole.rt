@@ -1,8 +1,7 @@
 // The texts of the answers to commands on whole components.
 ghost use Rattle.std.specs.Prelude.{◌≡◌, ◌++◌, codes, IfOk, OnOk};
-ghost use Rattle.spqr_script.specs.Answers.Rotation.{entry_text, entries_text};
+ghost use Rattle.spqr_script.specs.Answers.Rotation.{entries_text};
 ghost use Rattle.spqr_script.specs.Answers.Moves.{IsMoveOf};
-ghost use Rattle.rotations.specs.Entries.{entry};
 ghost use Rattle.spqr_script.specs.Answers.Whole.{whole_text, list_whole_text, block_move_text, regroup_text};
 
 use crate::outer::push_edges;

@@ -5,7 +5,7 @@ use Rattle.pair_split.specs.declared.components.Item.{Item}
 use Rattle.skeletons.specs.Items.{item_key}
 use Rattle.skeletons.proofs.NodeItems.{nth_item, keys-once}
 use Rattle.skel_compose.proofs.Back.{two-items, link-node, back-found}
-use Rattle.long_face.proofs.LinkSearch.{items-limited}
+use Rattle.skel_compose.proofs.Found.{items-few}
 use Rattle.long_face.proofs.links.link_back.Goals.{then-i-eq0, else-i-eq0}
 use Rattle.long_face.proofs.links.link_back.Goals as goal
 
@@ -23,7 +23,7 @@ pub item_with_key-requires-clause-few : goal.item_with_key-requires-clause-few
 item_with_key-requires-clause-few c = omega (
   arith,
   ap length c.items.ensures,
-  items-limited c.requires.block.0 c.args.tree.now c.requires.block.1 c.args.j
+  items-few c.requires.block.0 c.args.tree.now c.requires.block.1 c.args.j
       (link-node c.requires.block.0 c.args.tree.now c.requires.block.1.tree c.args.k c.args.i c.args.j c.requires.item c.requires.link) c.requires.block.2,
 )
 
