@@ -1,14 +1,12 @@
 -- The keys of a bond as its choice has them.
-use Rattle.std.proofs.Common.{◌≡◌, ◌≢◌, ℕ, zero, suc, ◌+◌, ◌-◌, ◌*◌, ◌/◌, ◌%◌, ◌<◌, ◌≤◌, nat_lt, true, List, [], ◌∷◌, length, map, take, drop, slice_index_or, IsPermutation, refl, sym, ap, ap₂, ◌∙◌, subst, arith, div-add-mod', mul_comm}
+use Rattle.std.proofs.Common.{◌≡◌, ℕ, zero, suc, ◌+◌, ◌-◌, ◌*◌, ◌/◌, ◌%◌, ◌<◌, ◌≤◌, nat_lt, true, List, [], ◌∷◌, length, map, take, drop, slice_index_or, IsPermutation, refl, sym, ap, ap₂, ◌∙◌, subst, arith, div-add-mod', mul_comm}
 use Rattle.std.specs.List.{swap}
-use Rattle.std.proofs.lemmas.Bool.{both_ways}
 use Rattle.std.proofs.lemmas.Nat.{div-mul-add, div_below, mod_below}
-use Rattle.std.proofs.lemmas.List.{get_or-map, take-map, take_more_same, take-append-drop, drop_more, length-map, take_all}
+use Rattle.std.proofs.lemmas.List.{get_or-map, length-map, take_all}
 use Rattle.std.proofs.lemmas.List.Sorted.{length_permutation}
 use Rattle.permutations.specs.Cyclic.{first_or}
 use Rattle.permutations.specs.Members.{is_member, is_distinct}
 use Rattle.rotations.specs.Rotation.{IsCyclicOrder}
-use Rattle.permutations.proofs.Members.{member-head, member-tail, distinct-append_apart}
 use Rattle.permutations.proofs.Arrangements.{member-at}
 use Rattle.pair_split.specs.declared.components.Item.{Item}
 use Rattle.pair_split.specs.declared.components.Kind.{Kind}
@@ -27,8 +25,6 @@ use Rattle.skeletons.specs.Moves.{IsNodeOfKind}
 use Rattle.skeleton_choices.proofs.Told.{possible}
 use Rattle.skeleton_choices.proofs.Listed.{choice-normal, bond-keys_cut, rise}
 use Rattle.skel_embed.specs.Block.{BlockState, IsBlockState}
-use Rattle.skel_embed.specs.Exchanges.{other_of, exchanged}
-use Rattle.skel_embed.proofs.ExchangeSteps.{other-first, other-none}
 use Rattle.embed_enum.specs.Changes.{KeepsOthers}
 use Rattle.embed_enum.proofs.Placed.{placed, placed-all, placed-swap}
 
@@ -102,41 +98,6 @@ module _ (keys c : List ℕ) (b : IsBondOf keys c) where
       nothing : placed 1 (b.key ∷ b.rest) ≡ 0
       nothing = omega (arith, bond-number b.key b.others b.rest b.rise b.same)
 
--- a member of the front of a list without repetition is not the one behind it
-pub front-apart : (c : List ℕ) (i z : ℕ) → is_distinct c ≡ true → i < length c → is_member z (take i c) ≡ true → z ≢ slice_index_or c i 0
-front-apart c i z d l m e =
-    both_ways (is_member z (drop i c)) (distinct-append_apart (take i c) (drop i c) (subst (λ (u : List ℕ). is_distinct u ≡ true) (sym (take-append-drop i c)) d) z m)
-    (subst (λ (u : List ℕ). is_member z u ≡ true) (sym (drop_more c i 0 l)) (subst (λ u. is_member u (slice_index_or c i 0 ∷ drop (i + 1) c) ≡ true) (sym e) (member-head (slice_index_or c i 0) (drop (i + 1) c))))
-
--- what leaves each member as it is leaves the list
-pub map-same : (f : ℕ → ℕ) (l : List ℕ) → ((x : ℕ) → is_member x l ≡ true → f x ≡ x) → map f l ≡ l
-map-same f [] h = refl
-map-same f (x ∷ l) h = ap₂ (λ a (b : List ℕ). a ∷ b) (h x (member-head x l)) (map-same f l (λ z m. h z (member-tail z x l m)))
-
--- one key more in its place
-pub put-in_place : (keys c : List ℕ) → IsBondOf keys c → (i : ℕ) → i < length keys → take i c ≡ take i keys
-    → take (i + 1) (exchanged (slice_index_or c i 0) (slice_index_or keys i 0) c) ≡ take (i + 1) keys
-put-in_place keys c b i l e = take_more_same (exchanged x y c) keys i 0 (omega (arith, long, length-map c (other_of x y))) l front here
-  where
-    x : ℕ
-    x = slice_index_or c i 0
-
-    y : ℕ
-    y = slice_index_or keys i 0
-
-    long : i < length c
-    long = omega (arith, l, bond-long keys c b)
-
-    once : is_distinct keys ≡ true
-    once = subst (λ (z : List ℕ). is_distinct z ≡ true) (sym b.node) (ascends-distinct (b.key ∷ b.others) b.rise)
-
-    front : take i (exchanged x y c) ≡ take i keys
-    front = take-map (other_of x y) i c ∙ map-same (other_of x y) (take i c) (λ z m. other-none x y z (front-apart c i z b.once long m)
-        (front-apart keys i z once l (subst (λ (u : List ℕ). is_member z u ≡ true) e m))) ∙ e
-
-    here : slice_index_or (exchanged x y c) i 0 ≡ y
-    here = get_or-map (other_of x y) c i 0 0 long ∙ other-first x y
-
 -- one digit of the number taken off
 pub record DigitTaken (left factor items i : ℕ) : Type 0 where
   pub factor_is : factor / (items - i) ≡ factorial (items - (i + 1))
@@ -186,9 +147,6 @@ keeps-then a b c k f h = record {
   others = λ j l n. sym (same-choice a b k f c.rotation j) ∙ h.others j (subst (λ z. j < length z) (sym f.tree) l) n ∙ same-choice a b k f b.rotation j ∙ f.others j l n;
 }
 
-pub same-kind : (a b : BlockState) (k : ℕ) (kind : Kind) → KeepsOthers a b k → IsNodeOfKind a.tree k kind → IsNodeOfKind b.tree k kind
-same-kind a b k kind h n = subst (λ z. IsNodeOfKind z k kind) (sym h.tree) n
-
 -- a place behind the first
 pub place-behind : (c : List ℕ) (i : ℕ) → 0 < i → i < length c → is_member (slice_index_or c i 0) (drop 1 c) ≡ true
 place-behind [] i n l = absurd (omega (arith, l))
@@ -213,13 +171,6 @@ arranged-all c i left factor items number l n f h e =
     let z : items - i ≡ 0 = omega (arith, l) in
     let o : factorial (items - i) ≡ 1 = ap factorial z in
     omega (arith, placed-all i c (omega (arith, l, n)), e, o, f, h)
-
--- a change of the bond leaves as many keys
-pub same-length : (a b : BlockState) (k : ℕ) → IsBlockState a → IsBlockState b → KeepsOthers a b k → IsNodeOfKind a.tree k P → length (choice b.tree b.rotation k) ≡ length (choice a.tree a.rotation k)
-same-length a b k f h e n =
-    bond-long (node_keys b.tree k) (choice b.tree b.rotation k) (bond-of b h k (same-kind a b k P e n))
-    ∙ ap (λ z. length (node_keys z k)) e.tree
-    ∙ sym (bond-long (node_keys a.tree k) (choice a.tree a.rotation k) (bond-of a f k n))
 
 -- all places agree
 pub all-places : (keys c : List ℕ) → IsBondOf keys c → (i : ℕ) → length keys ≤ i → take i c ≡ take i keys → c ≡ keys

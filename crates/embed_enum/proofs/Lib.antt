@@ -11,4 +11,5 @@ pub mod Nodes
 pub mod Walks
 pub mod Places
 pub mod Single
-mod Resets
+mod Leads
+mod Reaches

@@ -186,37 +186,28 @@ numbered-begins s number l = record {
   below = omega (arith, l, count-product s.tree (lock_at s.locks) (length s.tree));
 }
 
-pub numbered-more : (old mid new : BlockState) (k left number : ℕ) → IsNumberedFrom old mid (k + 1) left number → KeepsOthers mid new k → (lock_at mid.locks k ≡ true → new ≡ mid)
-    → digit_at mid.tree (lock_at mid.locks) new.rotation k ≡ left % radix_at mid.tree (lock_at mid.locks) k → IsNumberedFrom old new k (left / radix_at mid.tree (lock_at mid.locks) k) number
-numbered-more old mid new k left number h o same d =
-    subst (λ (t : List Node). IsNumberedFrom old new k (left / radix_at t (lock_at mid.locks) k) number) (sym h.rest.tree)
-    (subst (λ z. IsNumberedFrom old new k (left / radix_at old.tree (lock_at z) k) number) (sym h.rest.locks) made)
+pub numbered-more : (old mid new : BlockState) (k left number : ℕ) → IsNumberedFrom old mid (k + 1) left number → KeepsOthers mid new k → (lock_at old.locks k ≡ true → new ≡ mid)
+    → digit_at old.tree (lock_at old.locks) new.rotation k ≡ left % radix_at old.tree (lock_at old.locks) k → IsNumberedFrom old new k (left / radix_at old.tree (lock_at old.locks) k) number
+numbered-more old mid new k left number h o same d = record {
+  rest = rest-then old mid new h.rest (rest-of mid new k o);
+  kept = held;
+  m = suc h.m;
+  all = omega (arith, h.all);
+  is = behind-divided left k h.m (radix_at old.tree (lock_at old.locks)) (digit_at old.tree (lock_at old.locks) new.rotation) (radix-positive old.tree (lock_at old.locks) k) d
+      ∙ behind-same left (k + 1) h.m (radix_at old.tree (lock_at old.locks)) (digit_at old.tree (lock_at old.locks) new.rotation) (digit_at old.tree (lock_at old.locks) mid.rotation)
+      (λ j a b. same-digit old.tree (lock_at old.locks) mid.rotation new.rotation j (stays j (omega (arith, b, h.all)) (λ e. omega (arith, e, a))))
+      ∙ h.is;
+  below = quotient-below left k (radix_at old.tree (lock_at old.locks)) (radix-positive old.tree (lock_at old.locks) k) (let e : product_to (k + 1) (radix_at old.tree (lock_at old.locks)) ≡ product_to (suc k) (radix_at old.tree (lock_at old.locks)) = ap (λ z. product_to z (radix_at old.tree (lock_at old.locks))) (add-one k) in omega (arith, e, h.below));
+}
   where
-    here : digit_at old.tree (lock_at old.locks) new.rotation k ≡ left % radix_at old.tree (lock_at old.locks) k
-    here = subst (λ z. digit_at old.tree (lock_at z) new.rotation k ≡ left % radix_at old.tree (lock_at z) k) h.rest.locks
-        (subst (λ (t : List Node). digit_at t (lock_at mid.locks) new.rotation k ≡ left % radix_at t (lock_at mid.locks) k) h.rest.tree d)
-
     stays : (j : ℕ) → j < length old.tree → j ≢ k → choice old.tree new.rotation j ≡ choice old.tree mid.rotation j
     stays j b n = subst (λ (t : List Node). choice t new.rotation j ≡ choice t mid.rotation j) h.rest.tree (o.others j (subst (λ (t : List Node). j < length t) (sym h.rest.tree) b) n)
 
     held : (j : ℕ) → j < length old.tree → lock_at old.locks j ≡ true → choice old.tree new.rotation j ≡ choice old.tree old.rotation j
     held j b y = elim (cases_eq j k) [
-      | inl e ↦ ap (λ (s : BlockState). choice old.tree s.rotation j) (same (subst (λ z. lock_at z k ≡ true) (sym h.rest.locks) (subst (λ z. lock_at old.locks z ≡ true) e y))) ∙ h.kept j b y
+      | inl e ↦ ap (λ (s : BlockState). choice old.tree s.rotation j) (same (subst (λ z. lock_at old.locks z ≡ true) e y)) ∙ h.kept j b y
       | inr n ↦ stays j b n ∙ h.kept j b y
     ]
-
-    made : IsNumberedFrom old new k (left / radix_at old.tree (lock_at old.locks) k) number
-    made = record {
-      rest = rest-then old mid new h.rest (rest-of mid new k o);
-      kept = held;
-      m = suc h.m;
-      all = omega (arith, h.all);
-      is = behind-divided left k h.m (radix_at old.tree (lock_at old.locks)) (digit_at old.tree (lock_at old.locks) new.rotation) (radix-positive old.tree (lock_at old.locks) k) here
-          ∙ behind-same left (k + 1) h.m (radix_at old.tree (lock_at old.locks)) (digit_at old.tree (lock_at old.locks) new.rotation) (digit_at old.tree (lock_at old.locks) mid.rotation)
-          (λ j a b. same-digit old.tree (lock_at old.locks) mid.rotation new.rotation j (stays j (omega (arith, b, h.all)) (λ e. omega (arith, e, a))))
-          ∙ h.is;
-      below = quotient-below left k (radix_at old.tree (lock_at old.locks)) (radix-positive old.tree (lock_at old.locks) k) (let e : product_to (k + 1) (radix_at old.tree (lock_at old.locks)) ≡ product_to (suc k) (radix_at old.tree (lock_at old.locks)) = ap (λ z. product_to z (radix_at old.tree (lock_at old.locks))) (add-one k) in omega (arith, e, h.below));
-    }
 
 pub numbered-ends : (old new : BlockState) (k left number : ℕ) → k ≡ 0 → IsNumberedFrom old new k left number → IsNumbered old new number
 numbered-ends old new k left number z h = record {

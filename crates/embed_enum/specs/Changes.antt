@@ -1,7 +1,10 @@
 -- What a change of one node leaves. Contracts of private functions cite these.
-use Rattle.std.specs.Prelude.{◌≡◌, ◌≢◌, ℕ, ◌<◌, ◌≤◌, true, false, List, length}
+use Rattle.std.specs.Prelude.{◌≡◌, ◌≢◌, ℕ, ◌<◌, ◌≤◌, true, false, List, length, map}
+use Rattle.permutations.specs.Members.{is_member, is_distinct}
+use Rattle.faces.specs.Euler.{IsPlaneSystem}
 use Rattle.pair_split.specs.Tutte.{node_at}
 use Rattle.skeletons.specs.Choices.{choice}
+use Rattle.skeletons.specs.Moves.{Move, moved_node, MoveLeads, Lead}
 use Rattle.skel_embed.specs.Block.{BlockState, lock_at, IsBlockState}
 use Rattle.embed_enum.specs.Digits.{digit_of, radix_at, digit_at, number_to}
 use Rattle.embed_enum.specs.Walk.{KeepsRest}
@@ -37,9 +40,26 @@ pub record IsNumbered (old new : BlockState) (number : ℕ) : Type 0 where
   pub kept : (j : ℕ) → j < length old.tree → lock_at old.locks j ≡ true → choice old.tree new.rotation j ≡ choice old.tree old.rotation j
   pub is : number_to (length old.tree) (radix_at old.tree (lock_at old.locks)) (digit_at old.tree (lock_at old.locks) new.rotation) ≡ number
 
--- the choices are those of a plane rotation system, the first n nodes at their first choices unless they are locked, and the others as they were
-pub record IsDraftReset (old : BlockState) (draft : List (List ℕ)) (n : ℕ) : Type 0 where
+-- the move leads from a block to a state of it in which the choice of node k is the one at place d, and the others stayed
+pub record LeadsToDigit (s : BlockState) (move : Move) (k d : ℕ) : Type 0 where
   pub state : BlockState
   pub right : IsBlockState state
-  pub is : draft ≡ state.choices
-  pub reset : AreReset old state 0 n
+  pub leads : MoveLeads s.graph s.tree move s.rotation state.rotation
+  pub is_moved : IsMoved s state k d
+
+-- the move of node k does so from each state in which node k has its present choice
+pub record IsMoveTo (s : BlockState) (k d : ℕ) (move : Move) : Type 0 where
+  pub node : moved_node move ≡ k
+  pub from : (t : BlockState) → IsBlockState t → KeepsRest s t → choice s.tree t.rotation k ≡ choice s.tree s.rotation k → LeadsToDigit t move k d
+
+-- moves of different nodes below `to` lead to a state in which the nodes of a range are reset, and all else is as in a block `mid`, which
+-- from that range on has the present choices
+pub record AreResetBy (old mid : BlockState) (from to : ℕ) (moves : List Move) : Type 0 where
+  pub rest : KeepsRest old mid
+  pub same : (j : ℕ) → from ≤ j → j < length old.tree → choice old.tree mid.rotation j ≡ choice old.tree old.rotation j
+  pub state : BlockState
+  pub right : IsBlockState state
+  pub lead : Lead old.graph old.tree (IsPlaneSystem old.graph) moves old.rotation state.rotation
+  pub reset : AreReset mid state from to
+  pub apart : is_distinct (map moved_node moves) ≡ true
+  pub below : (j : ℕ) → is_member j (map moved_node moves) ≡ true → j < to

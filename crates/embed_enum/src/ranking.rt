@@ -59,7 +59,7 @@ pub(crate) fn radix(p: &PlaneBlock, k: u32) -> u128
 }
 
 // The place of the present choice of node k among them.
-fn digit(p: &PlaneBlock, k: u32) -> u128
+pub(crate) fn digit(p: &PlaneBlock, k: u32) -> u128
     requires node { k < length p.now.tree }
     requires fits { radix_at p.now.tree (lock_at p.now.locks) k < 2 ^ 128 }
     ensures { result ≡ digit_at p.now.tree (lock_at p.now.locks) p.now.rotation k }

@@ -1,6 +1,6 @@
-// One node led to its first choice, to its next one, or to the one at a place.
+// One node led to its first choice, or to its next one.
 
-ghost use Rattle.std.specs.Prelude.{◌≡◌, ◌+◌, ◌<◌, true, false, cond, length};
+ghost use Rattle.std.specs.Prelude.{◌≡◌, ◌+◌, ◌<◌, true, false, length};
 ghost use Rattle.pair_split.specs.Tutte.{node_at};
 ghost use Rattle.pair_split.specs.declared.components.Kind.TheVariants.{R};
 ghost use Rattle.skeletons.specs.Choices.{choice};
@@ -9,19 +9,19 @@ ghost use Rattle.skeletons.specs.Moves.{IsNodeOfKind};
 ghost use Rattle.embed_enum.specs.Digits.{rigid_digit};
 ghost use Rattle.embed_enum.specs.Changes.{KeepsOthers, IsMoved, node_digit};
 
-use crate::moving::{arrange_bond, flip, sort_bond, step_bond};
+use crate::moving::{flip, sort_bond, step_bond};
 use crate::ranking::is_before_mirror;
 use pair_split::Kind;
 use skel_embed::PlaneBlock;
 
-// Leads triconnected node k to its first choice, or to its second.
-fn set_rigid(p: &mut PlaneBlock, k: u32, first: bool)
+// Leads triconnected node k to its first choice.
+fn reset_rigid(p: &mut PlaneBlock, k: u32)
     requires { IsNodeOfKind p.old.tree k R }
     ensures others { KeepsOthers p.old p.new k }
-    ensures digit { rigid_digit (choice p.old.tree p.new.rotation k) ≡ cond first 0 1 }
+    ensures digit { rigid_digit (choice p.old.tree p.new.rotation k) ≡ 0 }
 {
     p.belongs();
-    if is_before_mirror(p.keys(k)) != first {
+    if !is_before_mirror(p.keys(k)) {
         flip(p, k);
     }
 }
@@ -51,7 +51,7 @@ pub(crate) fn to_first(p: &mut PlaneBlock, k: u32)
     p.belongs();
     match p.tree().kind(k) {
         Kind::P => sort_bond(p, k),
-        Kind::R => set_rigid(p, k, true),
+        Kind::R => reset_rigid(p, k),
         Kind::S | Kind::B => {}
     }
 }
@@ -68,21 +68,5 @@ pub(crate) fn step(p: &mut PlaneBlock, k: u32) -> bool
         Kind::P => step_bond(p, k),
         Kind::R => step_rigid(p, k),
         Kind::S | Kind::B => false,
-    }
-}
-
-// Leads node k to the choice at this place among this many.
-pub(crate) fn to_digit(p: &mut PlaneBlock, k: u32, digit: u128, choices: u128)
-    requires node { k < length p.old.tree }
-    requires choices { choices ≡ choice_count (node_at p.old.tree k).kind
-        (length (node_at p.old.tree k).items) }
-    requires below { digit < choices }
-    ensures { IsMoved p.old p.new k digit }
-{
-    p.belongs();
-    match p.tree().kind(k) {
-        Kind::P => arrange_bond(p, k, digit, choices),
-        Kind::R => set_rigid(p, k, digit == 0),
-        Kind::S | Kind::B => {}
     }
 }

@@ -1,9 +1,11 @@
 // Moves between plane rotation systems of small blocks, worked out by hand.
 
+ghost use Rattle.embed_enum.specs.Walk.{KeepsRest};
+
 use crate::small_blocks::{JOINED, block_of};
 use embed_convert::moves;
-use embed_enum::goto;
-use skel_embed::Move;
+use embed_enum::next;
+use skel_embed::{Move, PlaneBlock};
 use std::test::Fail;
 
 // Whether the move flips node k.
@@ -30,12 +32,21 @@ fn are_three(list: &[Move]) -> bool {
     }
 }
 
+// Goes so many members on.
+fn go_on(block: &mut PlaneBlock, members: u32)
+    ensures { KeepsRest block.old block.new }
+{
+    for _step in 0..members {
+        next(block);
+    }
+}
+
 // The bond has the keys 0, 1 and 6; at the last member all three choices are other than at the first.
 #[test]
 fn leads_from_first_to_last(rt: HostRuntime) -> Result<(), Fail> {
     let block = block_of(rt.alloc(), 6, &JOINED)?;
     let mut last = block.copy(rt.alloc())?;
-    assert!(rt; goto(&mut last, 7).is_ok());
+    go_on(&mut last, 7);
     assert!(rt; are_three(&moves(rt.alloc(), &block, &last)?));
     assert!(rt; moves(rt.alloc(), &block, &block)?.is_empty());
     Ok(())

@@ -2,9 +2,11 @@
 
 use blocks::is_one_block;
 use contract_embed::ContractEmbedder;
+use embed_enum::{GotoFault, moves_to_rank};
+use embed_moves::{flip, permute};
 use multigraph::Graph;
 use pair_split::{PairSplitter, Splitter};
-use skel_embed::{BySkeletons, PlaneBlock, embed_by_skeletons};
+use skel_embed::{BySkeletons, Move, MoveList, PlaneBlock, embed_by_skeletons};
 use spqr_tree::Tree;
 use std::alloc::Global;
 use std::test::Fail;
@@ -42,4 +44,25 @@ pub(crate) fn block_of(
         BySkeletons::Plane(block) => Ok(block),
         BySkeletons::Not { .. } => Err(Fail::from("not plane")),
     }
+}
+
+// Makes moves of a block; returns whether all were made.
+pub(crate) fn make_all(block: &mut PlaneBlock, moves: &MoveList) -> bool {
+    let mut all = true;
+    for one in moves.as_slice() {
+        let made = match one {
+            Move::Flip(k) => *k < block.tree().node_count() && flip(block, *k).is_ok(),
+            Move::Permute(k, keys) => {
+                *k < block.tree().node_count() && permute(block, *k, keys.as_slice()).is_ok()
+            }
+        };
+        all = all && made;
+    }
+    all
+}
+
+// Leads a block to the member of this rank by its moves; returns whether all were made.
+pub(crate) fn go_to(alloc: Global, block: &mut PlaneBlock, rank: u128) -> Result<bool, GotoFault> {
+    let moves = moves_to_rank(alloc, block, rank)?;
+    Ok(make_all(block, &moves))
 }

@@ -1,7 +1,9 @@
 // Lists of small blocks, worked out by hand.
 
-use crate::small_blocks::{JOINED, block_of};
-use embed_enum::{CountOver, GotoFault, count, first, goto, members_after, next, rank};
+use crate::small_blocks::{JOINED, block_of, go_to, make_all};
+use embed_enum::{
+    CountOver, GotoFault, count, first, members_after, moves_to_first, moves_to_next, next, rank,
+};
 use pair_split::Kind;
 use skel_embed::PlaneBlock;
 use std::alloc::Global;
@@ -53,7 +55,7 @@ fn walks_through_three_edges(rt: HostRuntime) -> Result<(), Fail> {
 #[test]
 fn ranks_an_exchange(rt: HostRuntime) -> Result<(), Fail> {
     let mut block = block_of(rt.alloc(), 6, &JOINED)?;
-    assert!(rt; goto(&mut block, 4).is_ok());
+    assert!(rt; go_to(rt.alloc(), &mut block, 4) == Ok(true));
     let keys: &[u32] = &[0, 6, 1];
     if block.tree().node_count() == 3 {
         assert!(rt; block.keys(0) == keys);
@@ -68,8 +70,8 @@ fn walks_through_two_complete_graphs(rt: HostRuntime) -> Result<(), Fail> {
     assert!(rt; count(&block) == Ok(8));
     assert_eq!(rt; steps(&mut block, 20), 7);
     assert!(rt; rank(&block) == Ok(7));
-    assert!(rt; goto(&mut block, 8) == Err(GotoFault::RankOut(8)));
-    assert!(rt; goto(&mut block, 3).is_ok());
+    assert!(rt; go_to(rt.alloc(), &mut block, 8) == Err(GotoFault::RankOut(8)));
+    assert!(rt; go_to(rt.alloc(), &mut block, 3) == Ok(true));
     assert!(rt; rank(&block) == Ok(3));
     assert_eq!(rt; members_after(rt.alloc(), &block, 3)?.len(), 3);
     if block.tree().node_count() == 3 {
@@ -81,6 +83,27 @@ fn walks_through_two_complete_graphs(rt: HostRuntime) -> Result<(), Fail> {
     Ok(())
 }
 
+// By the moves to the next member through all eight, and by those to the first one back.
+#[test]
+fn moves_walk_through_two_complete_graphs(rt: HostRuntime) -> Result<(), Fail> {
+    let mut block = block_of(rt.alloc(), 6, &JOINED)?;
+    let last: u32 = 7;
+    for n in 0..last {
+        assert!(rt; rank(&block) == Ok(n as u128));
+        match moves_to_next(rt.alloc(), &block)? {
+            Some(moves) => assert!(rt; make_all(&mut block, &moves)),
+            None => return Err(Fail::from("no next member")),
+        }
+    }
+    assert!(rt; rank(&block) == Ok(7));
+    assert!(rt; moves_to_next(rt.alloc(), &block)?.is_none());
+    let back = moves_to_first(rt.alloc(), &block)?;
+    assert_eq!(rt; back.as_slice().len(), 3);
+    assert!(rt; make_all(&mut block, &back));
+    assert!(rt; rank(&block) == Ok(0));
+    Ok(())
+}
+
 // 34 factorial, the cyclic orders of 35 edges.
 static ORDERS: u128 = 295232799039604140847618609643520000000;
 
@@ -88,11 +111,11 @@ static ORDERS: u128 = 295232799039604140847618609643520000000;
 fn counts_up_to_the_limit(rt: HostRuntime) -> Result<(), Fail> {
     let mut block = bundle(rt.alloc(), 35)?;
     assert!(rt; count(&block) == Ok(ORDERS));
-    assert!(rt; goto(&mut block, ORDERS) == Err(GotoFault::RankOut(ORDERS)));
-    assert!(rt; goto(&mut block, ORDERS - 1).is_ok());
+    assert!(rt; go_to(rt.alloc(), &mut block, ORDERS) == Err(GotoFault::RankOut(ORDERS)));
+    assert!(rt; go_to(rt.alloc(), &mut block, ORDERS - 1) == Ok(true));
     assert!(rt; rank(&block) == Ok(ORDERS - 1));
     assert!(rt; !next(&mut block));
-    assert!(rt; goto(&mut block, ORDERS - 2).is_ok());
+    assert!(rt; go_to(rt.alloc(), &mut block, ORDERS - 2) == Ok(true));
     assert!(rt; next(&mut block));
     assert!(rt; rank(&block) == Ok(ORDERS - 1));
     Ok(())
@@ -103,7 +126,7 @@ fn walks_past_the_limit(rt: HostRuntime) -> Result<(), Fail> {
     let mut block = bundle(rt.alloc(), 36)?;
     assert!(rt; count(&block) == Err(CountOver));
     assert!(rt; rank(&block) == Err(CountOver));
-    assert!(rt; goto(&mut block, 0) == Err(GotoFault::CountOver));
+    assert!(rt; go_to(rt.alloc(), &mut block, 0) == Err(GotoFault::CountOver));
     assert!(rt; next(&mut block));
     if block.tree().node_count() == 1 {
         block.set_lock(0, true);
@@ -111,7 +134,7 @@ fn walks_past_the_limit(rt: HostRuntime) -> Result<(), Fail> {
     assert!(rt; count(&block) == Ok(1));
     assert!(rt; rank(&block) == Ok(0));
     assert!(rt; !next(&mut block));
-    assert!(rt; goto(&mut block, 0).is_ok());
+    assert!(rt; go_to(rt.alloc(), &mut block, 0) == Ok(true));
     Ok(())
 }
 
@@ -131,10 +154,10 @@ fn last_bond(block: &PlaneBlock) -> Option<u32> {
 fn walks_through_a_doubled_cycle(rt: HostRuntime) -> Result<(), Fail> {
     let mut block = doubled_cycle(rt.alloc(), 16)?;
     assert!(rt; count(&block) == Ok(65536));
-    assert!(rt; goto(&mut block, 65535).is_ok());
+    assert!(rt; go_to(rt.alloc(), &mut block, 65535) == Ok(true));
     assert!(rt; rank(&block) == Ok(65535));
     assert!(rt; !next(&mut block));
-    assert!(rt; goto(&mut block, 32767).is_ok());
+    assert!(rt; go_to(rt.alloc(), &mut block, 32767) == Ok(true));
     assert!(rt; next(&mut block));
     assert!(rt; rank(&block) == Ok(32768));
     if let Some(k) = last_bond(&block) {

@@ -6,29 +6,19 @@ use Rattle.spqr_session.specs.Embedded.{BlockView}
 use Rattle.spqr_session.specs.Codes.{Ladder, IsLowest, NoneApplies, first_code}
 use Rattle.spqr_session.specs.declared.code.Code.{Code}
 use Rattle.spqr_session.specs.declared.code.Code.TheVariants.{NonPlanar}
-use Rattle.spqr_session.specs.BlockCodes.{planar_codes}
-use Rattle.spqr_session.specs.Members.{StandsBehind}
 use Rattle.spqr_session.specs.declared.planned.Planned.{Planned}
-use Rattle.spqr_session.specs.declared.planned.Planned.TheVariants.{Refused, End, Change}
-use Rattle.spqr_session.specs.Planned.{IsChangeOf, IsAtEnd, TakenCodes}
+use Rattle.spqr_session.specs.declared.planned.Planned.TheVariants.{Refused, Change}
+use Rattle.spqr_session.specs.Planned.{IsChangeOf, TakenCodes}
 
 -- the plan for a block with this view: the first code that applies, or where there is none the block in its new embedding
 abbrev pub IsPlan : Ladder → (BlockTree → Embedding → Embedding → Type 0) → BlockView → Planned → Type 0
 IsPlan ladder IsChange v (Refused code) = first_code ladder ≡ Some code
-IsPlan ladder IsChange v End = ⊥
 IsPlan ladder IsChange v (Change p) = (first_code ladder ≡ None) × IsChangeOf IsChange v p
-
--- the plan of `next` for a block with this view
-abbrev pub IsNextPlan : BlockView → Planned → Type 0
-IsNextPlan v (Refused code) = first_code (planar_codes v.entry) ≡ Some code
-IsNextPlan v End = (first_code (planar_codes v.entry) ≡ None) × IsAtEnd v
-IsNextPlan v (Change p) = (first_code (planar_codes v.entry) ≡ None) × IsChangeOf StandsBehind v p
 
 -- the plan of a command whose codes are no ladder, for a block with this view: the lowest code that applies, or where there is none
 -- the block in its new embedding
 abbrev pub IsLowestPlan : (Code → Type 0) → (BlockTree → Embedding → Embedding → Type 0) → BlockView → Planned → Type 0
 IsLowestPlan applies IsChange v (Refused code) = IsLowest applies code
-IsLowestPlan applies IsChange v End = ⊥
 IsLowestPlan applies IsChange v (Change p) = NoneApplies applies × IsChangeOf IsChange v p
 
 -- code 5, and those of lists that become the rotation system of a block

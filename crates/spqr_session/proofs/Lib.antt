@@ -32,6 +32,7 @@ pub mod PlanarBlocks
 pub mod MoveVerdicts
 pub mod InnerKeys
 pub mod PermuteVerdicts
+pub mod MovesPlanned
 pub mod WalkPlans
 pub mod MemberLines
 pub mod TakePlans

@@ -13,7 +13,7 @@ use Rattle.spqr_session.specs.Commands.Convert.{conversion_text, WithMoves}
 use Rattle.spqr_session.specs.Planned.{embedding_of, IsPlanAt, IsLowestPlanAt, MayStand, IsSettled, IsConverted}
 use Rattle.spqr_session.specs.declared.code.Code.{Code}
 use Rattle.spqr_session.specs.declared.planned.Planned.{Planned}
-use Rattle.spqr_session.specs.declared.planned.Planned.TheVariants.{Refused, End, Change}
+use Rattle.spqr_session.specs.declared.planned.Planned.TheVariants.{Refused, Change}
 use Rattle.spqr_session.proofs.Views.{trees-at, entries-at}
 use Rattle.spqr_session.proofs.Ladders.{first-lowest, none-first}
 use Rattle.spqr_session.proofs.Plans.{changed-seen}
@@ -21,14 +21,12 @@ use Rattle.spqr_session.proofs.Plans.{changed-seen}
 -- a plan told by a ladder is one
 pub ladder-lowest : (ladder : Ladder) → rises_above 0 ladder ≡ true → (IsChange : BlockTree → Embedding → Embedding → Type 0) (views : List BlockView) (b : ℕ) (planned : Planned) → IsPlanAt ladder IsChange views b planned → IsLowestPlanAt (Applies ladder) IsChange views b planned
 ladder-lowest ladder r IsChange views b (Refused code) p = first-lowest 0 ladder code r p
-ladder-lowest ladder r IsChange views b End p = absurd p
 ladder-lowest ladder r IsChange views b (Change x) p = (p.0, none-first ladder p.1, p.2)
 
 module _ (applies : Code → Type 0) (IsChange : BlockTree → Embedding → Embedding → Type 0) where
   -- it may be put on the board
   pub lowest-stands : (views : List BlockView) (b : ℕ) (planned : Planned) → IsLowestPlanAt applies IsChange views b planned → MayStand views b planned
   lowest-stands views b (Refused code) p = tt
-  lowest-stands views b End p = absurd p
   lowest-stands views b (Change x) p = (p.0, p.2.0)
 
   module _ (scene : Scene) (before : BoardView) (together : BelongTogether scene before) (b : ℕ) (after : BoardView) where
@@ -36,7 +34,6 @@ module _ (applies : Code → Type 0) (IsChange : BlockTree → Embedding → Emb
     pub lowest-settled : (planned : Planned) (text : List ℕ) → IsLowestPlanAt applies IsChange before.views b planned → IsSettled b planned before text after
         → Carries applies (ChangesBlock (setting_on scene before.views) b (Silently IsChange)) (state_on scene before.views before) text (state_on scene before.views after)
     lowest-settled (Refused code) text p q = inl (record { code = code; lowest = p; line = q.0; stays = ap (state_on scene before.views) q.1 })
-    lowest-settled End text p q = absurd p
     lowest-settled (Change x) text p q = inr (
       p.1,
       record {
@@ -52,7 +49,6 @@ module _ (applies : Code → Type 0) (IsChange : BlockTree → Embedding → Emb
     pub lowest-converted : (planned : Planned) (text : List ℕ) → IsLowestPlanAt applies IsChange before.views b planned → IsConverted b planned before text after
         → Carries applies (ChangesBlock (setting_on scene before.views) b (WithMoves IsChange)) (state_on scene before.views before) text (state_on scene before.views after)
     lowest-converted (Refused code) text p q = inl (record { code = code; lowest = p; line = q.0; stays = ap (state_on scene before.views) q.1 })
-    lowest-converted End text p q = absurd p
     lowest-converted (Change x) text p q = inr (
       p.1,
       record {
@@ -70,7 +66,6 @@ module _ (applies : Code → Type 0) (IsChange : BlockTree → Embedding → Emb
 -- trees and certificates stay, whether memory sufficed or not
 converted-carried : (b : ℕ) (planned : Planned) (before after : BoardView) (text : List ℕ) → IsConverted b planned before text after → IsCarried before.views after.views
 converted-carried b (Refused code) before after text q = subst (λ (x : BoardView). IsCarried before.views x.views) (sym q.1) (record { trees = refl; certificates = refl })
-converted-carried b End before after text q = subst (λ (x : BoardView). IsCarried before.views x.views) (sym q.1) (record { trees = refl; certificates = refl })
 converted-carried b (Change x) before after text q = q.1.goes.carried
 
 pub either-converted : {E : Type 0} (r : Result (Vec ℕ) E) (b : ℕ) (planned : Planned) (before after : BoardView) → IfOk r (λ text. IsConverted b planned before text.items after) → OnErr r (after ≡ before) → IsCarried before.views after.views

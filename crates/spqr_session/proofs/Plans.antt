@@ -20,7 +20,7 @@ use Rattle.spqr_session.proofs.BlockPlans.{IsPlan}
 use Rattle.spqr_session.specs.declared.code.Code.{Code}
 use Rattle.spqr_session.specs.declared.code.Code.TheVariants.{NoBlock}
 use Rattle.spqr_session.specs.declared.planned.Planned.{Planned}
-use Rattle.spqr_session.specs.declared.planned.Planned.TheVariants.{Refused, End, Change}
+use Rattle.spqr_session.specs.declared.planned.Planned.TheVariants.{Refused, Change}
 use Rattle.spqr_session.proofs.Views.{trees-at, entries-at}
 use Rattle.spqr_session.proofs.Ladders.{rung-missed, refused-first, carried-out}
 use Rattle.spqr_session.proofs.BlockCarried.{block-in}
@@ -39,7 +39,7 @@ seen_state board = record { present = record { entries = map view_entry board.vi
 
 -- the codes of the block that is found at its place
 module _ (codes : BlockTree → Option Embedding → Ladder) (views : List BlockView) (b : ℕ) (s : State) (present : s.present.entries ≡ map view_entry views) where
-  abbrev whole : Ladder
+  abbrev pub whole : Ladder
   whole = (NoBlock, not (is_block (map view_tree views) b)) ∷ codes (tree_at (map view_tree views) b) (entry_at s.present b)
 
   pub verdict-found : (v : BlockView) (o : Option Code) → b < length views → v ≡ view_at views b → first_code (codes v.tree v.entry) ≡ o → first_code whole ≡ o
@@ -53,7 +53,6 @@ module _ (codes : BlockTree → Option Embedding → Ladder) (IsChange : BlockTr
   -- the plan of the block that is found at its place
   pub plan-found : (v : BlockView) (planned : Planned) → b < length views → v ≡ view_at views b → IsPlan (codes v.tree v.entry) IsChange v planned → IsPlanAt (whole codes views b s present) IsChange views b planned
   plan-found v (Refused code) l at q = verdict-found codes views b s present v (Some code) l at q
-  plan-found v End l at q = absurd q
   plan-found v (Change x) l at q = (l, verdict-found codes views b s present v None l at q.0, subst (λ (y : BlockView). IsChangeOf IsChange y x) at q.1)
 
 -- ---- what comes of a plan
@@ -61,7 +60,6 @@ module _ (codes : BlockTree → Option Embedding → Ladder) (IsChange : BlockTr
 -- a plan may be put on the board
 pub plan-stands : (ladder : Ladder) (IsChange : BlockTree → Embedding → Embedding → Type 0) (views : List BlockView) (b : ℕ) (planned : Planned) → IsPlanAt ladder IsChange views b planned → MayStand views b planned
 plan-stands ladder IsChange views b (Refused code) p = tt
-plan-stands ladder IsChange views b End p = absurd p
 plan-stands ladder IsChange views b (Change x) p = (p.0, p.2.0)
 
 -- what a board goes on to is the present family, and the one that was present is the nearest earlier one
@@ -125,13 +123,11 @@ module _ (scene : Scene) (before : BoardView) (together : BelongTogether scene b
       → ChangeStep ladder (Silently IsChange) (setting_on scene before.views) b (state_on scene before.views before) text (state_on scene before.views after)
   settled-step (Refused code) text p q =
       subst (λ (s : State). ChangeStep ladder (Silently IsChange) on b state text s) (sym (ap (state_on scene before.views) q.1)) (refused-first ladder r (ChangesBlock on b (Silently IsChange)) state code text p q.0)
-  settled-step End text p q = absurd p
   settled-step (Change x) text p q = changed-step p.2.0.old (embedding_of x) (record { within = p.0; entry = p.2.0.present }) p.2.1 q.1 text q.0 p.1
 
 -- trees and certificates stay
 pub settled-carried : (b : ℕ) (planned : Planned) (before after : BoardView) (text : List ℕ) → IsSettled b planned before text after → IsCarried before.views after.views
 settled-carried b (Refused code) before after text q = subst (λ (x : BoardView). IsCarried before.views x.views) (sym q.1) (nothing-carried before.views)
-settled-carried b End before after text q = subst (λ (x : BoardView). IsCarried before.views x.views) (sym q.1) (nothing-carried before.views)
 settled-carried b (Change x) before after text q = q.1.goes.carried
 
 -- they do, whether memory sufficed or not

@@ -16,7 +16,7 @@ use Rattle.spqr_session.specs.Commands.Take.{IsLockedOut, TakeApplies, IsTaken}
 use Rattle.spqr_session.specs.Planned.{embedding_of, IsLowestPlanAt, TakenCodes, IsTakePlan}
 use Rattle.spqr_session.proofs.BlockPlans.{IsLowestPlan, EntryTakenCodes}
 use Rattle.spqr_session.specs.declared.planned.Planned.{Planned}
-use Rattle.spqr_session.specs.declared.planned.Planned.TheVariants.{Refused, End, Change}
+use Rattle.spqr_session.specs.declared.planned.Planned.TheVariants.{Refused, Change}
 use Rattle.spqr_session.proofs.Views.{trees-at}
 use Rattle.spqr_session.proofs.Plans.{present-at}
 use Rattle.spqr_session.proofs.Planes.{seen_embedding, SeenPlane}
@@ -60,7 +60,6 @@ module _ (entries : List (ℕ × List ℕ)) (v : BlockView) where
         let own : EntryTakenCodes entries v.tree v.entry code =
         subst (λ (o : Option Embedding). EntryTakenCodes entries v.tree o code) (sym seen.entry) (subst (λ (t : BlockTree). TakenCodes entries t here code) same-tree h) in
         alone-lowest (EntryTakenCodes entries v.tree v.entry) code own (λ other a. entry-alone entries v.tree numbered seen.tree v.entry code other own a)
-    take-planned End h = absurd h
     take-planned (Change q) h =
         let made : IsTaken entries v.tree here (embedding_of q) = subst (λ (t : BlockTree). IsTaken entries t here (embedding_of q)) same-tree h.1 in (
           subst (λ (o : Option Embedding). NoneApplies (EntryTakenCodes entries v.tree o)) (sym seen.entry) (taken-none entries v.tree numbered seen.tree here (embedding_of q) made),
@@ -81,5 +80,4 @@ module _ (entries : List (ℕ × List ℕ)) (views : List BlockView) (b : ℕ) (
       by : (planned : Planned) → IsLowestPlan (EntryTakenCodes entries (view_at views b).tree (view_at views b).entry) (IsTaken entries) (view_at views b) planned
           → IsLowestPlanAt (TakeApplies (map view_tree views) b entries s) (IsTaken entries) views b planned
       by (Refused code) q = entry-lowest entries (map view_tree views) b s (view_at views b).tree (trees-at views b) (view_at views b).entry (present-at views s b present) within code q
-      by End q = absurd q
       by (Change x) q = (l, λ code a. q.0 code (entry-down entries (map view_tree views) b s (view_at views b).tree (trees-at views b) (view_at views b).entry (present-at views s b present) within code a), q.1)

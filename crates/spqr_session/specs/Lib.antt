@@ -19,6 +19,7 @@ pub mod BlockCodes
 pub mod Components
 pub mod Members
 pub mod Planned
+pub mod PlannedMoves
 pub mod Wholes
 pub mod Commands
 pub mod WholeSteps

@@ -1,27 +1,25 @@
--- What a command that changes a block has planned, and what is made of it.
-use Rattle.std.specs.Prelude.{◌≡◌, ℕ, ◌+◌, ◌<◌, ◌≤◌, ◌^◌, ◌⊎◌, Bool, true, false, List, length, Option, None, Some, ⊤, IsPermutation}
+-- What a command has planned that puts another block in the place of one, and what is made of it; and the codes that are found.
+use Rattle.std.specs.Prelude.{◌≡◌, ℕ, ◌<◌, Bool, true, false, List, length, Option, None, Some, ⊤, IsPermutation}
 use Rattle.multigraph.specs.Part.{GraphPart}
 use Rattle.rotations.specs.PartLists.{IsFirstBadInPart}
 use Rattle.skeletons.specs.Items.{node_keys}
-use Rattle.skeletons.specs.Lists.{IsRank}
 use Rattle.skel_embed.specs.Block.{BlockState}
 use Rattle.skel_embed.specs.Taken.{IsNotPlane}
-use Rattle.embed_enum.specs.Walk.{IsMemberList, KeepsRest}
+use Rattle.embed_enum.specs.Walk.{KeepsRest}
 use Rattle.embed_moves.specs.Made.{IsLeastHeld, NoneHeld}
-use Rattle.spqr_script.specs.Answers.Change.{ok_text, end_text}
+use Rattle.spqr_script.specs.Answers.Change.{ok_text}
 use Rattle.spqr_session.specs.Trees.{BlockTree}
 use Rattle.spqr_session.specs.State.{Embedding}
 use Rattle.spqr_session.specs.Embedded.{BlockView, view_at}
 use Rattle.spqr_session.specs.Board.{BoardView, IsChangedTo}
 use Rattle.spqr_session.specs.Codes.{Ladder, IsLowest, NoneApplies, code_text, first_code}
 use Rattle.spqr_session.specs.declared.code.Code.{Code}
-use Rattle.spqr_session.specs.declared.code.Code.TheVariants.{BadRotation, NotGenusZero, CountOver, RankOut, Locked}
-use Rattle.spqr_session.specs.Members.{StandsBehind, StandsLast}
+use Rattle.spqr_session.specs.declared.code.Code.TheVariants.{BadRotation, NotGenusZero, Locked}
 use Rattle.spqr_session.specs.Commands.Take.{IsLockedOut, IsTaken}
 use Rattle.spqr_session.specs.Commands.Convert.{conversion_text}
 use Rattle.spqr_session.specs.Commands.Permute.{inner_edges, permute_codes}
 use Rattle.spqr_session.specs.declared.planned.Planned.{Planned}
-use Rattle.spqr_session.specs.declared.planned.Planned.TheVariants.{Refused, End, Change}
+use Rattle.spqr_session.specs.declared.planned.Planned.TheVariants.{Refused, Change}
 
 -- the embedding of a block in the plane
 abbrev pub embedding_of : BlockState → Embedding
@@ -42,7 +40,6 @@ IsChangeOf IsChange v p = (fits : FitsBlock v p) × IsChange v.tree fits.old (em
 -- the plan for block b among these: the first code that applies, or where there is none the block in its new embedding
 abbrev pub IsPlanAt : Ladder → (BlockTree → Embedding → Embedding → Type 0) → List BlockView → ℕ → Planned → Type 0
 IsPlanAt ladder IsChange views b (Refused code) = first_code ladder ≡ Some code
-IsPlanAt ladder IsChange views b End = ⊥
 IsPlanAt ladder IsChange views b (Change p) = (b < length views) × (first_code ladder ≡ None) × IsChangeOf IsChange (view_at views b) p
 
 -- code 12 of a mirror image: the least locked node with choices
@@ -53,37 +50,6 @@ IsMirrorVerdict p (Some code) = (k : ℕ) × IsLeastHeld p k × (code ≡ Locked
 -- graph, tree and locks stay
 abbrev pub KeepsBlock : BlockState → BlockState → Type 0
 KeepsBlock p q = KeepsRest p q
-
--- the plan of a way to the first member
-abbrev pub IsFirstPlan : BlockState → Planned → Type 0
-IsFirstPlan p (Refused code) = ⊥
-IsFirstPlan p End = ⊥
-IsFirstPlan p (Change q) = KeepsBlock p q × ((l : List (List (List ℕ))) → IsMemberList p l → IsRank l q.rotation 0)
-
--- the plan of a way to the member at rank r: refused where the list has 2^128 members or more, or r members or fewer
-abbrev pub IsRankPlan : ℕ → BlockState → Planned → Type 0
-IsRankPlan r p (Refused code) = (l : List (List (List ℕ))) → IsMemberList p l
-    → ((code ≡ CountOver) × (2 ^ 128 ≤ length l)) ⊎ ((code ≡ RankOut (length l)) × (length l ≤ r) × (length l < 2 ^ 128))
-IsRankPlan r p End = ⊥
-IsRankPlan r p (Change q) = KeepsBlock p q × ((l : List (List (List ℕ))) → IsMemberList p l → IsRank l q.rotation r × (length l < 2 ^ 128))
-
--- the plan of a way to the member after the present one: there is none, or it is this
-abbrev pub IsStepPlan : BlockState → Planned → Type 0
-IsStepPlan p (Refused code) = ⊥
-IsStepPlan p End = (l : List (List (List ℕ))) (i : ℕ) → IsMemberList p l → IsRank l p.rotation i → i + 1 ≡ length l
-IsStepPlan p (Change q) = KeepsBlock p q × ((l : List (List (List ℕ))) (i : ℕ) → IsMemberList p l → IsRank l p.rotation i → IsRank l q.rotation (i + 1))
-
--- the block is at its last member
-pub record IsAtEnd (v : BlockView) : Type 0 where
-  pub entry : Embedding
-  pub present : v.entry ≡ Some entry
-  pub last : StandsLast v.tree entry
-
--- the plan of `next` for block b among these
-abbrev pub IsNextPlanAt : Ladder → List BlockView → ℕ → Planned → Type 0
-IsNextPlanAt ladder views b (Refused code) = first_code ladder ≡ Some code
-IsNextPlanAt ladder views b End = (first_code ladder ≡ None) × IsAtEnd (view_at views b)
-IsNextPlanAt ladder views b (Change p) = (b < length views) × (first_code ladder ≡ None) × IsChangeOf StandsBehind (view_at views b) p
 
 -- the first code of a ladder, where one applies
 abbrev pub IsVerdict : Ladder → Option Code → Type 0
@@ -106,20 +72,17 @@ IsPermuteVerdict k keys v (Some code) = IsVerdict (permute_codes k keys v.tree v
 -- what is planned may be put on the board
 abbrev pub MayStand : List BlockView → ℕ → Planned → Type 0
 MayStand views b (Refused code) = ⊤
-MayStand views b End = ⊤
 MayStand views b (Change p) = (b < length views) × FitsBlock (view_at views b) p
 
--- the plan is carried out: the line of the code or `end`, and nothing changes; or `ok`, and the block is changed
+-- the plan is carried out: the line of the code, and nothing changes; or `ok`, and the block is changed
 abbrev pub IsSettled : ℕ → Planned → BoardView → List ℕ → BoardView → Type 0
 IsSettled b (Refused code) before text after = (text ≡ code_text code) × (after ≡ before)
-IsSettled b End before text after = (text ≡ end_text) × (after ≡ before)
 IsSettled b (Change p) before text after = (text ≡ ok_text) × IsChangedTo before b (embedding_of p) after
 
 -- the plan of a command whose codes are no ladder, for block b among these: the lowest code that applies, or where there is none the
 -- block in its new embedding
 abbrev pub IsLowestPlanAt : (Code → Type 0) → (BlockTree → Embedding → Embedding → Type 0) → List BlockView → ℕ → Planned → Type 0
 IsLowestPlanAt applies IsChange views b (Refused code) = IsLowest applies code
-IsLowestPlanAt applies IsChange views b End = ⊥
 IsLowestPlanAt applies IsChange views b (Change p) = (b < length views) × NoneApplies applies × IsChangeOf IsChange (view_at views b) p
 
 -- codes 6, 7 and 12 of lists that become the rotation system of a block with embedding e
@@ -132,16 +95,14 @@ TakenCodes entries tree e code = ⊥
 -- the plan of making lists the rotation system of a block in the plane, which is that part of a graph: refused, or taken
 abbrev pub IsTakePlan : GraphPart → List (ℕ × List ℕ) → BlockState → Planned → Type 0
 IsTakePlan part entries p (Refused code) = TakenCodes entries (record { part = part; nodes = p.tree }) (embedding_of p) code
-IsTakePlan part entries p End = ⊥
 IsTakePlan part entries p (Change q) = KeepsBlock p q × IsTaken entries (record { part = part; nodes = p.tree }) (embedding_of p) (embedding_of q)
 
 -- the text is the lines of the moves from the block with this view to another embedding of it
 abbrev pub TellsMoves : BlockView → BlockState → List ℕ → Type 0
 TellsMoves v p text = (old : Embedding) → v.entry ≡ Some old → text ≡ conversion_text v.tree old (embedding_of p)
 
--- the plan is carried out with its moves reported: the line of the code or `end`, and nothing changes; or the lines of the moves, and the
--- block is changed
+-- the plan is carried out with its moves reported: the line of the code, and nothing changes; or the lines of the moves, and the block is
+-- changed
 abbrev pub IsConverted : ℕ → Planned → BoardView → List ℕ → BoardView → Type 0
 IsConverted b (Refused code) before text after = (text ≡ code_text code) × (after ≡ before)
-IsConverted b End before text after = (text ≡ end_text) × (after ≡ before)
 IsConverted b (Change p) before text after = TellsMoves (view_at before.views b) p text × IsChangedTo before b (embedding_of p) after

@@ -118,13 +118,9 @@ fn steps_of_move(graph: &Graph, tree: &Tree, sizes: &Sizes, k: u32) -> u64 {
     edges_at(graph, tree, k).min(sum.saturating_sub(most))
 }
 
-/// Whether moves of these nodes are sooner made in one pass than one after the other. It is a matter of time alone: both lead to the
-/// same rotation system.
-pub(crate) fn is_worth_a_pass(
-    alloc: Global,
-    plane: &PlaneBlock,
-    nodes: &[u32],
-) -> Result<bool, AllocError> {
+// Whether moves of these nodes are sooner made in one pass than one after the other. It is a matter of time alone: both lead to the
+// same rotation system.
+fn is_worth_a_pass(alloc: Global, plane: &PlaneBlock, nodes: &[u32]) -> Result<bool, AllocError> {
     if nodes.len() < MANY {
         return Ok(false);
     }

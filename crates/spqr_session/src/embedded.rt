@@ -9,6 +9,7 @@ mod returning;
 mod sharing;
 
 use blocks::Blocks;
+pub(crate) use changing::moved_copy;
 use finding::outcome_of;
 use multigraph::{Graph, Part};
 use pair_split::Splitter;

@@ -19,12 +19,12 @@
 // What is found of a block, its tree and its embedding or its certificate, depends on its graph alone, so a block with the graph of
 // one of the few blocks before it starts with a copy, which shares graph and tree: a long path has one tree for all its edges.
 //
-// `flip`, `permute` and `mirror` change a block in place. Their moves are of different nodes, and a move changes the choice of its
-// node alone, so each is taken back by one move to the choice that was there before, in any order: room for these is reserved
-// before anything changes. Where a step has many moves of one block, and together they would walk along far more edges than the block has,
-// they are made on its choices, and the rotation system is composed in one pass. A change of a block sets its cut vertices to their first arrangements for the new blocks. So a list is
-// kept only where another arrangement was set, and a change of a block removes those at its vertices; the others are found when
-// they are asked for.
+// `flip`, `permute`, `mirror`, `first`, `next` and `goto` change a block in place. Their moves are of different nodes, and a move changes
+// the choice of its node alone, so each is taken back by one move to the choice that was there before, in any order: room for these
+// is reserved before anything changes. Where a step has many moves of one block, and together they would walk along far more edges
+// than the block has, they are made on its choices, and the rotation system is composed in one pass. A change of a block sets its
+// cut vertices to their first arrangements for the new blocks. So a list is kept only where another arrangement was set, and a
+// change of a block removes those at its vertices; the others are found when they are asked for.
 #![tactic(auto)]
 
 mod at_once;
@@ -42,6 +42,7 @@ mod making;
 mod marks;
 mod planar;
 mod planned;
+mod planned_moves;
 mod scene;
 mod session;
 mod sorting;

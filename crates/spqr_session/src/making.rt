@@ -1,7 +1,7 @@
-// A move of a node: whether it may be made, and how it is.
+// Moves of nodes: whether one may be made, and how they are.
 ghost use Rattle.std.specs.Prelude.{◌≡◌, ◌<◌, [], ◌∷◌, length, IfOk, OnErr};
 ghost use Rattle.skel_embed.specs.Block.{lock_at};
-ghost use Rattle.skel_embed.specs.Values.{as_move};
+ghost use Rattle.skel_embed.specs.Values.{as_move, as_moves};
 ghost use Rattle.spqr_script.specs.Answers.Change.{ok_text};
 ghost use Rattle.spqr_session.specs.BlockCodes.{entry_codes, lock_codes};
 ghost use Rattle.spqr_session.specs.Board.{CanMake, AreMade};
@@ -37,6 +37,23 @@ pub(crate) fn code_of_move(block: &EmbeddedBlock, k: u32) -> Option<Code>
     }
 }
 
+/// Makes moves of block `b`, no two of one node, and returns `ok`. If memory runs out, the board stays as it was.
+pub(crate) fn make_moves(
+    alloc: Global,
+    board: &mut Board,
+    b: u32,
+    moves: MoveList,
+) -> Result<Vec<u8>, AllocError>
+    requires { CanMake board.old.views b (as_moves moves) }
+    ensures text { IfOk result (λ text. text.items ≡ ok_text) }
+    ensures made { IfOk result (λ _. AreMade board.old b (as_moves moves) board.new) }
+    ensures memory { OnErr result (board.new ≡ board.old) }
+{
+    let text = ok_line(alloc)?;
+    board.make(alloc, b, moves)?;
+    Ok(text)
+}
+
 /// Makes a move of block `b`, and returns `ok`. If memory runs out, the board stays as it was.
 pub(crate) fn make_move(
     alloc: Global,
@@ -49,8 +66,6 @@ pub(crate) fn make_move(
     ensures made { IfOk result (λ _. AreMade board.old b (as_move one ∷ []) board.new) }
     ensures memory { OnErr result (board.new ≡ board.old) }
 {
-    let text = ok_line(alloc)?;
     let moves = vec![in alloc; one]?;
-    board.make(alloc, b, MoveList::of(moves))?;
-    Ok(text)
+    make_moves(alloc, board, b, MoveList::of(moves))
 }

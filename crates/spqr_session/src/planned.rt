@@ -1,20 +1,18 @@
-// What a command that changes a block has planned, and how it is carried out.
+// What a command has planned that puts another block in the place of one, and how it is carried out.
 ghost use Rattle.std.specs.Prelude.{◌≡◌, IfOk, OnErr};
 ghost use Rattle.spqr_session.specs.Planned.{MayStand, IsSettled};
 
 use crate::board::Board;
 use crate::code::Code;
 use skel_embed::PlaneBlock;
-use spqr_script::{end_line, ok_line};
+use spqr_script::ok_line;
 use std::alloc::{AllocError, Global};
 
-/// What a command that changes a block has planned: nothing is changed yet.
+/// What a command has planned that puts another block in the place of one: nothing is changed yet.
 #[derive(Debug, Drop)]
 pub enum Planned {
     /// It is refused.
     Refused(Code),
-    /// No member follows the present one, and nothing changes.
-    End,
     /// The block is to become this one.
     Change(PlaneBlock),
 }
@@ -45,7 +43,6 @@ pub(crate) fn settle(
 {
     match planned {
         Planned::Refused(code) => code.line(alloc),
-        Planned::End => end_line(alloc),
         Planned::Change(plane) => make(alloc, board, b, plane),
     }
 }

@@ -1,21 +1,29 @@
 // `convert B rank R` and `convert B to ROT`: the moves that lead to a member, printed and made.
-ghost use Rattle.std.specs.Prelude.{◌≡◌, IfOk, OnErr};
+ghost use Rattle.std.specs.Prelude.{◌≡◌, map, Some, IfOk, OnErr, All};
 ghost use Rattle.spqr_session.specs.Scene.{setting_on};
 ghost use Rattle.spqr_session.specs.declared.scene.Scene.{Scene};
 ghost use Rattle.spqr_session.specs.Board.{state_on, BelongTogether, IsCarried};
-ghost use Rattle.spqr_session.specs.Planned.{FitsBlock, MayStand, TellsMoves, IsConverted};
+ghost use Rattle.skel_embed.specs.Values.{as_moves};
+ghost use Rattle.embed_moves.specs.Made.{Fits};
+ghost use Rattle.spqr_session.specs.State.{Embedding, State};
+ghost use Rattle.spqr_session.specs.Embedded.{view_tree, view_entry};
+ghost use Rattle.spqr_session.specs.Members.{StandsAt};
+ghost use Rattle.spqr_session.specs.BlockCodes.{read_ladder};
+ghost use Rattle.spqr_session.specs.Planned.{FitsBlock, IsPlanAt, MayStand, TellsMoves, IsConverted};
+ghost use Rattle.spqr_session.specs.PlannedMoves.{IsAfterMoves};
 ghost use Rattle.spqr_session.specs.Commands.Convert.{ConvertToStep};
-ghost use Rattle.spqr_session.specs.Products.{ConvertByProduct};
+ghost use Rattle.spqr_session.specs.Products.{product_rank_codes, ConvertByProduct};
 
 use super::take::plan_take;
 use super::walk::plan_rank;
 use crate::board::Board;
-use crate::embedded::EmbeddedBlock;
+use crate::embedded::{EmbeddedBlock, moved_copy};
 use crate::planned::Planned;
+use crate::planned_moves::PlannedMoves;
 use embed_convert::moves;
 use rotations::Lists;
-use skel_embed::{Outcome, PlaneBlock};
-use spqr_script::{end_line, moves_lines};
+use skel_embed::{MoveList, Outcome, PlaneBlock};
+use spqr_script::moves_lines;
 use std::alloc::{AllocError, Global};
 
 // The lines of the moves from a block to one that can take its place.
@@ -63,8 +71,44 @@ fn convert(
 {
     match planned {
         Planned::Refused(code) => code.line(alloc),
-        Planned::End => end_line(alloc),
         Planned::Change(plane) => move_to(alloc, board, b, plane),
+    }
+}
+
+// The block in the plane that moves of a block lead to.
+fn after_moves(
+    alloc: Global,
+    block: &EmbeddedBlock,
+    moves: &MoveList,
+) -> Result<PlaneBlock, AllocError>
+    requires planar { (e : Embedding) × (block.now.entry ≡ Some e) }
+    requires moves { All (Fits block.now.tree.nodes) (as_moves moves.now) }
+    ensures { IfOk result (IsAfterMoves block.now (as_moves moves.now)) }
+{
+    match block.outcome() {
+        Outcome::Plane(plane) => moved_copy(alloc, plane, moves),
+        Outcome::Not(_) => unreachable!(),
+    }
+}
+
+// The plan for block `b` to become the member of this rank.
+fn plan_convert(
+    alloc: Global,
+    blocks: &[EmbeddedBlock],
+    b: u32,
+    r: u128,
+) -> Result<Planned, AllocError>
+    ensures { (s : State) → s.present.entries ≡ map view_entry blocks.now
+        → IfOk result (IsPlanAt (read_ladder (product_rank_codes r) (map view_tree blocks.now) b s) (StandsAt r) blocks.now b) }
+{
+    let planned = plan_rank(alloc, blocks, b, r)?;
+    match planned {
+        PlannedMoves::Refused(code) => Ok(Planned::Refused(code)),
+        PlannedMoves::End => unreachable!(),
+        PlannedMoves::Make(moves) => {
+            let plane = after_moves(alloc, &blocks[b as usize], &moves)?;
+            Ok(Planned::Change(plane))
+        }
     }
 }
 
@@ -81,7 +125,7 @@ pub(crate) fn carry_convert_rank(
     ensures setting { IsCarried board.old.views board.new.views }
     ensures memory { OnErr result (board.new ≡ board.old) }
 {
-    let planned = plan_rank(alloc, board.blocks(), b, r)?;
+    let planned = plan_convert(alloc, board.blocks(), b, r)?;
     convert(alloc, board, b, planned)
 }
 

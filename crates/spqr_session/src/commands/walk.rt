@@ -8,53 +8,36 @@ ghost use Rattle.spqr_session.specs.Members.{StandsAt};
 ghost use Rattle.spqr_session.specs.Products.{product_rank_codes, GotoByProduct};
 ghost use Rattle.spqr_session.specs.BlockCodes.{block_ladder, read_ladder};
 ghost use Rattle.spqr_session.specs.Board.{state_on, BelongTogether, IsCarried};
-ghost use Rattle.spqr_session.specs.Planned.{IsPlanAt, IsFirstPlan, IsRankPlan, IsNextPlanAt, IsStepPlan};
+ghost use Rattle.spqr_session.specs.PlannedMoves.{IsMovesPlanAt, IsFirstPlan, IsRankPlan, IsNextPlanAt, IsStepPlan};
 ghost use Rattle.spqr_session.specs.Commands.Walk.{FirstStep, NextStep};
 
-use crate::at_once::is_worth_a_pass;
 use crate::board::Board;
 use crate::code::Code;
 use crate::embedded::EmbeddedBlock;
 use crate::planar::plane_of;
-use crate::planned::{Planned, settle};
-use embed_enum::{GotoFault, count, first, first_in_one_pass, goto, is_at_first, next};
+use crate::planned_moves::{PlannedMoves, settle_moves};
+use embed_enum::{GotoFault, moves_to_first, moves_to_next, moves_to_rank};
 use skel_embed::PlaneBlock;
 use std::alloc::{AllocError, Global};
 
 // ---- first
 
-// The nodes that are neither locked nor at their first choices.
-fn nodes_past_first(alloc: Global, plane: &PlaneBlock) -> Result<Vec<u32>, AllocError> {
-    let mut nodes = Vec::new(alloc);
-    for k in 0..plane.tree().node_count() {
-        if !plane.locked(k) && !is_at_first(plane, k) {
-            nodes.push(k)?;
-        }
-    }
-    Ok(nodes)
-}
-
-// The plan for a block in the plane: composed in one pass where that is sooner done, else made on a copy.
-fn first_of_plane(alloc: Global, plane: &PlaneBlock) -> Result<Planned, AllocError>
+// The plan for a block in the plane.
+fn first_of_plane(alloc: Global, plane: &PlaneBlock) -> Result<PlannedMoves, AllocError>
     ensures { IfOk result (IsFirstPlan plane.now) }
 {
-    let nodes = nodes_past_first(alloc, plane)?;
-    if is_worth_a_pass(alloc, plane, &nodes)? {
-        return Ok(Planned::Change(first_in_one_pass(alloc, plane)?));
-    }
-    let mut copy = plane.copy(alloc)?;
-    first(&mut copy);
-    Ok(Planned::Change(copy))
+    let moves = moves_to_first(alloc, plane)?;
+    Ok(PlannedMoves::Make(moves))
 }
 
 // The plan for block `b`.
-fn plan_first(alloc: Global, blocks: &[EmbeddedBlock], b: u32) -> Result<Planned, AllocError>
+fn plan_first(alloc: Global, blocks: &[EmbeddedBlock], b: u32) -> Result<PlannedMoves, AllocError>
     ensures { (s : State) → s.present.entries ≡ map view_entry blocks.now
-        → IfOk result (IsPlanAt (block_ladder (map view_tree blocks.now) b s) (StandsAt 0) blocks.now b) }
+        → IfOk result (IsMovesPlanAt (block_ladder (map view_tree blocks.now) b s) (StandsAt 0) blocks.now b) }
 {
     match plane_of(blocks, b) {
         Ok((_, plane)) => first_of_plane(alloc, plane),
-        Err(code) => Ok(Planned::Refused(code)),
+        Err(code) => Ok(PlannedMoves::Refused(code)),
     }
 }
 
@@ -66,45 +49,30 @@ pub(crate) fn carry_first(alloc: Global, board: &mut Board, b: u32) -> Result<Ve
     ensures memory { OnErr result (board.new ≡ board.old) }
 {
     let planned = plan_first(alloc, board.blocks(), b)?;
-    settle(alloc, board, b, planned)
+    settle_moves(alloc, board, b, planned)
 }
 
 // ---- goto
 
 // The refusal of a rank that is not below the count, which is below 2^128 as every number of its type.
-fn rank_out(count: u128) -> Planned
-    ensures plan { result ≡ Planned.Refused (Code.RankOut count) }
+fn rank_out(count: u128) -> PlannedMoves
+    ensures plan { result ≡ PlannedMoves.Refused (Code.RankOut count) }
     ensures below { count < 2 ^ 128 }
 {
-    Planned::Refused(Code::RankOut(count))
+    PlannedMoves::Refused(Code::RankOut(count))
 }
 
-// The plan for a block in the plane that has a member of this rank: made on a copy.
-fn plane_at_rank(alloc: Global, plane: &PlaneBlock, r: u128) -> Result<Planned, AllocError>
+// The plan for a block in the plane.
+fn rank_of_plane(alloc: Global, plane: &PlaneBlock, r: u128) -> Result<PlannedMoves, AllocError>
     ensures { IfOk result (IsRankPlan r plane.now) }
 {
-    let mut copy = plane.copy(alloc)?;
-    match goto(&mut copy, r) {
-        Ok(()) => Ok(Planned::Change(copy)),
+    match moves_to_rank(alloc, plane, r) {
+        Ok(moves) => Ok(PlannedMoves::Make(moves)),
         Err(fault) => match fault {
-            GotoFault::CountOver => Ok(Planned::Refused(Code::CountOver)),
+            GotoFault::CountOver => Ok(PlannedMoves::Refused(Code::CountOver)),
             GotoFault::RankOut(count) => Ok(rank_out(count)),
+            GotoFault::Memory => Err(AllocError),
         },
-    }
-}
-
-// The plan for a block in the plane. A refusal takes no copy.
-fn rank_of_plane(alloc: Global, plane: &PlaneBlock, r: u128) -> Result<Planned, AllocError>
-    ensures { IfOk result (IsRankPlan r plane.now) }
-{
-    match count(plane) {
-        Err(_) => Ok(Planned::Refused(Code::CountOver)),
-        Ok(members) => {
-            if r < members {
-                return plane_at_rank(alloc, plane, r);
-            }
-            Ok(rank_out(members))
-        }
     }
 }
 
@@ -114,13 +82,13 @@ pub(crate) fn plan_rank(
     blocks: &[EmbeddedBlock],
     b: u32,
     r: u128,
-) -> Result<Planned, AllocError>
+) -> Result<PlannedMoves, AllocError>
     ensures { (s : State) → s.present.entries ≡ map view_entry blocks.now
-        → IfOk result (IsPlanAt (read_ladder (product_rank_codes r) (map view_tree blocks.now) b s) (StandsAt r) blocks.now b) }
+        → IfOk result (IsMovesPlanAt (read_ladder (product_rank_codes r) (map view_tree blocks.now) b s) (StandsAt r) blocks.now b) }
 {
     match plane_of(blocks, b) {
         Ok((_, plane)) => rank_of_plane(alloc, plane, r),
-        Err(code) => Ok(Planned::Refused(code)),
+        Err(code) => Ok(PlannedMoves::Refused(code)),
     }
 }
 
@@ -138,31 +106,29 @@ pub(crate) fn carry_goto(
     ensures memory { OnErr result (board.new ≡ board.old) }
 {
     let planned = plan_rank(alloc, board.blocks(), b, r)?;
-    settle(alloc, board, b, planned)
+    settle_moves(alloc, board, b, planned)
 }
 
 // ---- next
 
-// The plan for a block in the plane: made on a copy.
-fn next_of_plane(alloc: Global, plane: &PlaneBlock) -> Result<Planned, AllocError>
+// The plan for a block in the plane.
+fn next_of_plane(alloc: Global, plane: &PlaneBlock) -> Result<PlannedMoves, AllocError>
     ensures { IfOk result (IsStepPlan plane.now) }
 {
-    let mut copy = plane.copy(alloc)?;
-    if next(&mut copy) {
-        Ok(Planned::Change(copy))
-    } else {
-        Ok(Planned::End)
+    match moves_to_next(alloc, plane)? {
+        Some(moves) => Ok(PlannedMoves::Make(moves)),
+        None => Ok(PlannedMoves::End),
     }
 }
 
 // The plan for block `b`.
-fn plan_next(alloc: Global, blocks: &[EmbeddedBlock], b: u32) -> Result<Planned, AllocError>
+fn plan_next(alloc: Global, blocks: &[EmbeddedBlock], b: u32) -> Result<PlannedMoves, AllocError>
     ensures { (s : State) → s.present.entries ≡ map view_entry blocks.now
         → IfOk result (IsNextPlanAt (block_ladder (map view_tree blocks.now) b s) blocks.now b) }
 {
     match plane_of(blocks, b) {
         Ok((_, plane)) => next_of_plane(alloc, plane),
-        Err(code) => Ok(Planned::Refused(code)),
+        Err(code) => Ok(PlannedMoves::Refused(code)),
     }
 }
 
@@ -175,5 +141,5 @@ pub(crate) fn carry_next(alloc: Global, board: &mut Board, b: u32) -> Result<Vec
     ensures memory { OnErr result (board.new ≡ board.old) }
 {
     let planned = plan_next(alloc, board.blocks(), b)?;
-    settle(alloc, board, b, planned)
+    settle_moves(alloc, board, b, planned)
 }

@@ -1,12 +1,12 @@
 // A block's embedding changed. Memory is taken only for lists.
-ghost use Rattle.std.specs.Prelude.{◌≡◌, ◌<◌, [], ◌∷◌, length, Some, IfOk, IfErr};
+ghost use Rattle.std.specs.Prelude.{◌≡◌, ◌<◌, [], ◌∷◌, length, Some, IfOk, IfErr, All};
 ghost use Rattle.skel_embed.specs.Block.{IsBlockState};
 ghost use Rattle.skel_embed.specs.Taken.{IsGiven, IsTakeRefusal};
 ghost use Rattle.spqr_session.specs.Starting.{IsBlockTaken, IsBlockRefusal};
 ghost use Rattle.spqr_session.specs.State.{Embedding};
 ghost use Rattle.embed_moves.specs.Made.{Fits};
-ghost use Rattle.spqr_session.specs.Moved.{moved};
-ghost use Rattle.skel_embed.specs.Values.{as_move};
+ghost use Rattle.spqr_session.specs.Moved.{moved, all_moved};
+ghost use Rattle.skel_embed.specs.Values.{as_move, as_moves};
 ghost use Rattle.spqr_session.specs.History.{entry_moved, entry_locked, entry_mirrored};
 ghost use Rattle.spqr_session.specs.Embedded.{entry_lock};
 
@@ -14,8 +14,8 @@ use super::EmbeddedBlock;
 use embed_moves::carry_out;
 use multigraph::Part;
 use rotations::Lists;
-use skel_embed::{Move, Outcome, PlaneBlock, TakeFault};
-use std::alloc::Global;
+use skel_embed::{Move, MoveList, Outcome, PlaneBlock, TakeFault};
+use std::alloc::{AllocError, Global};
 
 impl EmbeddedBlock {
     /// Whether node `k` is locked; no node of a block that is not planar is.
@@ -122,4 +122,23 @@ fn carry_one(plane: &mut PlaneBlock, one: &Move)
 {
     plane.belongs();
     carry_out(plane, one);
+}
+
+/// A block in the plane after moves of it, made on a copy.
+pub(crate) fn moved_copy(
+    alloc: Global,
+    plane: &PlaneBlock,
+    moves: &MoveList,
+) -> Result<PlaneBlock, AllocError>
+    requires { All (Fits plane.now.tree) (as_moves moves.now) }
+    ensures { IfOk result (λ p. p ≡ record plane.now {
+      rotation = all_moved plane.now.tree (as_moves moves.now) plane.now.rotation;
+      choices = p.choices;
+    }) }
+{
+    let mut copy = plane.copy(alloc)?;
+    for one in moves.as_slice() {
+        carry_one(&mut copy, one);
+    }
+    Ok(copy)
 }

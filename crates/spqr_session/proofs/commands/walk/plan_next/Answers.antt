@@ -2,7 +2,7 @@ use Rattle.std.proofs.Common.{map, refl}
 use Rattle.spqr_session.specs.Embedded.{view_tree, view_at}
 use Rattle.spqr_session.specs.BlockCodes.{block_ladder}
 use Rattle.spqr_session.specs.Planar.{IsPlaneAt}
-use Rattle.spqr_session.specs.Planned.{IsNextPlanAt, IsStepPlan}
+use Rattle.spqr_session.specs.PlannedMoves.{IsNextPlanAt, IsStepPlan}
 use Rattle.spqr_session.proofs.Steps.{ok-map}
 use Rattle.spqr_session.proofs.PlanarBlocks.{plane-there}
 use Rattle.spqr_session.proofs.WalkPlans.{next-plan, next-found}
