@@ -10,8 +10,9 @@
 // `moves_to_first`, `moves_to_next` and `moves_to_rank` read off the moves that lead to the first member, to the following one and to
 // the one at a place, at most one of each node, and leave the block as it is. The following one is found as a number is counted up: the
 // last node that is not at its last choice advances by one (of a bond the next ordering: Narayana, 14th century; Dijkstra 1976),
-// and those after it return to their first choices. So `first` and `next` go in place. These need no number, and work on lists of any
-// length. `members_after` keeps the members that follow. The list is the same from each of its members, so a walk stays in it.
+// and those after it return to their first choices. `first` and `next` change the block in place. All but `moves_to_rank` need no
+// number, and work on lists of any length. `members_after` keeps the members that follow. The list is the same from each of its
+// members, so a walk stays in it.
 //
 // `count`, `rank`, `first` and `next` take no memory, and a call that fails changes nothing. What they cost, in looks at choices:
 // `count` a look at each node, and no more than 128 products by factors above one. `rank` the square of the number of items of
