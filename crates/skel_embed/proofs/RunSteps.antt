@@ -7,7 +7,7 @@ use Rattle.std.proofs.lemmas.List.Sorted.{All-permutation, IsPermutation-map, Is
 use Rattle.permutations.specs.Cyclic.{first_or, successor, predecessor, turned, from_least, IsTurn}
 use Rattle.permutations.specs.Members.{is_member, is_distinct}
 use Rattle.permutations.specs.Runs.{joined, group_keys, IsGroup, InRuns}
-use Rattle.permutations.proofs.Arrangements.{permutation-distinct, permutation-member, member-at}
+use Rattle.permutations.proofs.Arrangements.{permutation-distinct, permutation-member, member-at, member-from_contains}
 use Rattle.permutations.proofs.Chains.{successor-next}
 use Rattle.permutations.proofs.CyclicSame.{IsTurn-trans, IsTurn-head}
 use Rattle.permutations.proofs.Members.{member-head, member-tail, member-append_left, member-append_right, member-cases, distinct-append_apart, distinct-append_right, CutAt, cut_at}
@@ -15,7 +15,9 @@ use Rattle.permutations.proofs.NormalForm.{from_least-turn}
 use Rattle.permutations.proofs.Runs.{first-of, last-of, joined-append, joined-member, first-group, other-groups, runs-turn}
 use Rattle.permutations.proofs.Successor.{predecessor-successor}
 use Rattle.permutations.proofs.Turned.{IsTurn-sym, IsTurn-swap, IsTurn-member, IsTurn-distinct, IsTurn-successor, IsTurn-length}
-use Rattle.multigraph.specs.Graph.{Multigraph, IsGraph, edge_count, incident_edges}
+use Rattle.multigraph.specs.Graph.{Multigraph, IsGraph, edge_count, incident_edges, is_edge_at}
+use Rattle.multigraph.proofs.Incident.{incident-has}
+use Rattle.multigraph.proofs.OtherEnd.{edge_at-parts}
 use Rattle.rotations.specs.Rotation.{order_at, IsRotationSystem}
 use Rattle.rotations.specs.Runs.{IsRun, IsOutside, IsRunMoved}
 use Rattle.pair_split.specs.Tutte.{Node, IsTutte}
@@ -389,6 +391,11 @@ order-length g r v s l = length_permutation (incident_edges g v) (order_at r v) 
 -- of the edges at a vertex each stands round it
 pub incident-in : (g : Multigraph) (r : List (List ℕ)) (v i : ℕ) (edges : List ℕ) → IsRotationSystem g r → v < g.vertex_count → edges ≡ incident_edges g v → i < length edges → is_member (slice_index_or edges i 0) (order_at r v) ≡ true
 incident-in g r v i edges s l q h = permutation-member (incident_edges g v) (order_at r v) (slice_index_or edges i 0) (s.orders v l).arranged ∙ subst (λ (z : List ℕ). is_member (slice_index_or edges i 0) z ≡ true) q (member-at edges i 0 h)
+
+-- an edge at a vertex stands around it
+pub edge-around : (g : Multigraph) (r : List (List ℕ)) (v e : ℕ) → IsRotationSystem g r → v < g.vertex_count → is_edge_at g v e ≡ true → is_member e (order_at r v) ≡ true
+edge-around g r v e s l h = let w = edge_at-parts g v e h in
+    permutation-member (incident_edges g v) (order_at r v) e (s.orders v l).arranged ∙ member-from_contains (incident_edges g v) e (incident-has g v e w.0 w.1)
 
 -- a member of a front is one of a shorter front, or the last
 pub take-more : (l : List ℕ) (i x : ℕ) → i < length l → is_member x (take (suc i) l) ≡ true → (is_member x (take i l) ≡ true) ⊎ (slice_index_or l i 0 ≡ x)

@@ -62,24 +62,27 @@ fn is_first(g: &Graph, t: &Tree, r: &Rotation, k: u32, v: u32, e: u32, key: u32)
     t.group(k, e) == key && t.group(k, r.pred(v, e)) != key
 }
 
-// The first edge of the run around v that e is in, whose edges have this key: it is looked for from edge to edge, against the cyclic order.
-fn first_from(g: &Graph, t: &Tree, r: &Rotation, k: u32, v: u32, e: u32, key: u32) -> u32
+// The first edge of the run around v that e is in, if its edges have this key: it is looked for from edge to edge, against the cyclic order.
+fn first_from(g: &Graph, t: &Tree, r: &Rotation, k: u32, v: u32, e: u32, key: u32) -> Option<u32>
     requires block { IsBlockTree g.now t.now }
     requires node { k < length t.now }
     requires system { IsRotationSystem g.now r.now }
     requires vertex { v < g.now.vertex_count }
     requires around { is_member e (order_at r.now v) ≡ true }
-    ensures { is_member result (order_at r.now v) ≡ true }
+    ensures { IfSome result (BeginsRun (group t.now k) (order_at r.now v) key) }
 {
+    if t.group(k, e) != key {
+        return None;
+    }
     let mut at = e;
     for _step in 0..g.degree(v) {
         let before = r.pred(v, at);
         if t.group(k, before) != key {
-            return at;
+            return Some(at);
         }
         at = before;
     }
-    at
+    None
 }
 
 // The first edge of the run around v whose edges have this key, if e is in it.
@@ -90,13 +93,8 @@ fn first_at(g: &Graph, t: &Tree, r: &Rotation, k: u32, v: u32, e: u32, key: u32)
     requires vertex { v < g.now.vertex_count }
     ensures { IfSome result (BeginsRun (group t.now k) (order_at r.now v) key) }
 {
-    let edges = g.incident(v);
-    let Ok(place) = edges.binary_search(&e) else {
-        return None;
-    };
-    let first = first_from(g, t, r, k, v, edges[place], key);
-    if is_first(g, t, r, k, v, first, key) {
-        Some(first)
+    if g.is_edge_at(e, v) {
+        first_from(g, t, r, k, v, e, key)
     } else {
         None
     }
