@@ -2,3 +2,4 @@
 pub mod Told
 pub mod Arranging
 pub mod Returns
+pub mod Near

@@ -5,6 +5,7 @@ use Rattle.pair_split.specs.Kinds.{has_choices}
 use Rattle.pair_split.specs.declared.components.Kind.TheVariants.{P, R}
 use Rattle.rotations.specs.Runs.{mirror_image}
 use Rattle.skeletons.specs.Items.{node_keys}
+use Rattle.skeletons.specs.Choices.{choice}
 use Rattle.skeletons.specs.Moves.{Move, flip, permute, IsNodeOfKind, MoveLeads}
 use Rattle.skel_embed.specs.Block.{BlockState, lock_at}
 use Rattle.embed_moves.specs.declared.flipping.FlipFault.{FlipFault}
@@ -16,6 +17,11 @@ use Rattle.embed_moves.specs.declared.permuting.PermuteFault.TheVariants as perm
 pub record IsMade (move : Move) (old new : BlockState) : Type 0 where
   pub leads : MoveLeads old.graph old.tree move old.rotation new.rotation
   pub rest : new ≡ record old { rotation = new.rotation; choices = new.choices }
+
+-- no choice but that of node k changed, and all else stayed
+pub record KeepsOthers (old new : BlockState) (k : ℕ) : Type 0 where
+  pub rest : new ≡ record old { rotation = new.rotation; choices = new.choices }
+  pub others : (j : ℕ) → j < length old.tree → j ≢ k → choice old.tree new.rotation j ≡ choice old.tree old.rotation j
 
 -- a flip of node k is refused: it is not triconnected, or it is and is locked
 abbrev pub IsFlipRefusal : BlockState → ℕ → FlipFault → Type 0
