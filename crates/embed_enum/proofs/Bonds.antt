@@ -1,14 +1,16 @@
 -- The keys of a bond as its choice has them.
-use Rattle.std.proofs.Common.{◌≡◌, ℕ, zero, suc, ◌+◌, ◌-◌, ◌*◌, ◌/◌, ◌%◌, ◌<◌, ◌≤◌, nat_lt, true, List, [], ◌∷◌, length, map, take, drop, slice_index_or, IsPermutation, refl, sym, ap, ap₂, ◌∙◌, subst, arith, div-add-mod', mul_comm}
+use Rattle.std.proofs.Common.{◌≡◌, ◌≢◌, ℕ, zero, suc, ◌+◌, ◌-◌, ◌*◌, ◌/◌, ◌%◌, ◌<◌, ◌≤◌, nat_lt, true, List, [], ◌∷◌, length, drop, slice_index_or, IsPermutation, refl, sym, ap, ap₂, ◌∙◌, subst, arith, div-add-mod', mul_comm}
 use Rattle.std.specs.List.{swap}
+use Rattle.std.specs.List.Sorted.{IsNonDecreasing}
 use Rattle.std.proofs.lemmas.Nat.{div-mul-add, div_below, mod_below}
-use Rattle.std.proofs.lemmas.List.{get_or-map, length-map, take_all}
 use Rattle.std.proofs.lemmas.List.Sorted.{length_permutation}
 use Rattle.permutations.specs.Cyclic.{first_or}
 use Rattle.permutations.specs.Members.{is_member, is_distinct}
 use Rattle.rotations.specs.Rotation.{IsCyclicOrder}
-use Rattle.permutations.proofs.Arrangements.{member-at}
-use Rattle.pair_split.specs.declared.components.Item.{Item}
+use Rattle.permutations.proofs.Arrangements.{member-at, permutation-member}
+use Rattle.permutations.proofs.Places.{places-differ}
+use Rattle.multigraph.specs.Part.{Rises}
+use Rattle.graph_theory.proofs.Rising.{members-same}
 use Rattle.pair_split.specs.declared.components.Kind.{Kind}
 use Rattle.pair_split.specs.declared.components.Kind.TheVariants.{P}
 use Rattle.choice_lists.specs.Arrangements.{factorial, factorial_number}
@@ -18,7 +20,7 @@ use Rattle.choice_lists.proofs.Smaller.{smaller, ascends-distinct, permutation-t
 use Rattle.choice_lists.proofs.Arrangements.{rising-number, falling-number}
 use Rattle.choice_lists.proofs.NextArrangement.{Falls}
 use Rattle.choice_lists.proofs.Choices.{bond-number}
-use Rattle.skeletons.specs.Items.{item_key, node_keys}
+use Rattle.skeletons.specs.Items.{node_keys}
 use Rattle.skeletons.specs.Choices.{choice}
 use Rattle.skeletons.specs.Families.{IsPossibleFor}
 use Rattle.skeletons.specs.Moves.{IsNodeOfKind}
@@ -64,6 +66,25 @@ bond-of s h k n =
     let o : IsPossibleFor P s.tree k (choice s.tree s.rotation k) = subst (λ (z : Kind). IsPossibleFor z s.tree k (choice s.tree s.rotation k)) n.1 (possible s.graph s.tree h.block s.rotation k h.plane n.0) in
     bond-made (node_keys s.tree k) (choice s.tree s.rotation k) d.0 d.1 d.2 (ascends-from nat_lt (node_keys s.tree k) (rise s.graph s.tree h.block s.rotation h.plane k n.0)) o
     (choice-normal s.graph s.tree h.block s.rotation k h.plane n.0).0
+
+-- the keys of a bond are those of its node where they do not decrease
+pub bond-increases : (s : BlockState) → IsBlockState s → (k : ℕ) → IsNodeOfKind s.tree k P → IsNonDecreasing (choice s.tree s.rotation k) → choice s.tree s.rotation k ≡ node_keys s.tree k
+bond-increases s h k n up = members-same c keys rises (h.block.tree.in_order.keys_rise k n.0) (λ x m. sym (permutation-member keys c x o.arranged) ∙ m) (λ x m. permutation-member keys c x o.arranged ∙ m)
+  where
+    keys : List ℕ
+    keys = node_keys s.tree k
+
+    c : List ℕ
+    c = choice s.tree s.rotation k
+
+    o : IsPossibleFor P s.tree k c
+    o = subst (λ (z : Kind). IsPossibleFor z s.tree k c) n.1 (possible s.graph s.tree h.block s.rotation k h.plane n.0)
+
+    strict : (a b : ℕ) → a ≤ b → a ≢ b → a < b
+    strict a b l n = omega (arith, l, n)
+
+    rises : Rises c
+    rises i j w b = strict (slice_index_or c i 0) (slice_index_or c j 0) (up i j 0 (omega (arith, w)) b) (places-differ c i j (choice-normal s.graph s.tree h.block s.rotation k h.plane n.0).0 w b)
 
 module _ (keys c : List ℕ) (b : IsBondOf keys c) where
   -- as many as the node has
@@ -153,10 +174,6 @@ place-behind [] i n l = absurd (omega (arith, l))
 place-behind (x ∷ c) zero n l = absurd (omega (arith, n))
 place-behind (x ∷ c) (suc i) n l = member-at c i 0 (omega (arith, l))
 
--- the key of an item
-pub key-of_item : (items : List Item) (i : ℕ) (d : Item) → i < length (map item_key items) → (slice_index_or items i d).key ≡ slice_index_or (map item_key items) i 0
-key-of_item items i d l = sym (get_or-map item_key items i d 0 (omega (arith, l, length-map items item_key)))
-
 -- one digit more
 pub arranged-more : (c : List ℕ) (i j left factor items number : ℕ) → i < items → i ≤ j → j < length c → length c ≡ items → factor ≡ factorial (items - i) → left < factor
     → smaller (slice_index_or c j 0) (drop i c) ≡ left / (factor / (items - i)) → placed i c + left ≡ number → placed (i + 1) (swap c i j) + left % (factor / (items - i)) ≡ number
@@ -171,7 +188,3 @@ arranged-all c i left factor items number l n f h e =
     let z : items - i ≡ 0 = omega (arith, l) in
     let o : factorial (items - i) ≡ 1 = ap factorial z in
     omega (arith, placed-all i c (omega (arith, l, n)), e, o, f, h)
-
--- all places agree
-pub all-places : (keys c : List ℕ) → IsBondOf keys c → (i : ℕ) → length keys ≤ i → take i c ≡ take i keys → c ≡ keys
-all-places keys c b i l e = sym (take_all i c (omega (arith, l, bond-long keys c b))) ∙ e ∙ take_all i keys l
