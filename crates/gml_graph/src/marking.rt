@@ -134,14 +134,19 @@ fn write_document_pair(
 /// In each node the first pair under the key `spqrRotation` becomes a string of the text, whatever its value was; where there
 /// is no such pair it is added after the others. All else is written as it is, also a node for which there is no text; texts for
 /// which there is no node are not used. Where no text has a quote in it, what is written is read again as the document with these
-/// texts. Takes time linear in the bytes of the document and the texts, no memory but for what is written, and fails only if memory
-/// runs out.
-pub fn write_marked(alloc: Global, d: &Doc, texts: &[Vec<u8>]) -> Result<Vec<u8>, AllocError>
+/// texts. At first room is made for `room` bytes. Takes time linear in the bytes of the document and the texts, no memory but for what
+/// is written and this room, and fails only if memory runs out.
+pub fn write_marked(
+    alloc: Global,
+    d: &Doc,
+    texts: &[Vec<u8>],
+    room: usize,
+) -> Result<Vec<u8>, AllocError>
     ensures layout { IfOk result (λ text. text.items ≡ written (marked (map (λ text. text.items) texts.now) d.now)) }
     ensures spelled { AreQuotable (map (λ text. text.items) texts.now)
         → IfOk result (λ text. Spells text.items (marked (map (λ text. text.items) texts.now) d.now)) }
 {
-    let mut out = Vec::new(alloc);
+    let mut out = Vec::with_capacity(alloc, room)?;
     let mut found = false;
     for pair in d.pairs() {
         write_document_pair(&mut out, pair, texts, &mut found)?;

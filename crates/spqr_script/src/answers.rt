@@ -24,5 +24,5 @@ pub use list::{list_line, more_line};
 pub use longest::longest_lines;
 pub use move_list::{moves_lines, push_move_count_line};
 pub use rank::rank_line;
-pub use rotation::{push_rotation_line, rotation_line};
+pub use rotation::{push_rotation_line, rotation_line, rotation_room};
 pub use whole::{list_whole_line, push_block_move_line, push_regroup_line, push_whole_line};

@@ -27,7 +27,7 @@ pub use answers::{
     count_line, draw_lines, end_line, error_line, euler_line, faces_lines, gml_lines, list_line,
     list_whole_line, longest_lines, more_line, moves_lines, ok_line, push_block_move_line,
     push_move_count_line, push_regroup_line, push_rotation_line, push_whole_line, rank_line,
-    rotation_line,
+    rotation_line, rotation_room,
 };
 pub use command::{Command, ScriptFault};
 pub use decimals::number;

@@ -118,6 +118,22 @@ fn steps_of_move(graph: &Graph, tree: &Tree, sizes: &Sizes, k: u32) -> u64 {
     edges_at(graph, tree, k).min(sum.saturating_sub(most))
 }
 
+// How many steps along edges moves of these nodes take at most, without a look at the tree beyond them.
+fn steps_at_most(graph: &Graph, tree: &Tree, nodes: &[u32]) -> u64 {
+    let mut steps: u64 = 0;
+    for k in nodes {
+        if *k < tree.node_count() {
+            steps = steps.saturating_add(edges_at(graph, tree, *k));
+        }
+    }
+    steps
+}
+
+// Whether so many steps take longer than a pass.
+fn is_over_a_pass(graph: &Graph, steps: u64) -> bool {
+    steps / STEPS_OF_A_PASS > graph.edge_count() as u64
+}
+
 // Whether moves of these nodes are sooner made in one pass than one after the other. It is a matter of time alone: both lead to the
 // same rotation system.
 fn is_worth_a_pass(alloc: Global, plane: &PlaneBlock, nodes: &[u32]) -> Result<bool, AllocError> {
@@ -127,12 +143,15 @@ fn is_worth_a_pass(alloc: Global, plane: &PlaneBlock, nodes: &[u32]) -> Result<b
     plane.belongs();
     let (graph, tree) = (plane.graph(), plane.tree());
     graph.keeps_limits();
+    if !is_over_a_pass(graph, steps_at_most(graph, tree, nodes)) {
+        return Ok(false);
+    }
     let sizes = sizes_of(alloc, tree)?;
     let mut steps: u64 = 0;
     for k in nodes {
         steps = steps.saturating_add(steps_of_move(graph, tree, &sizes, *k));
     }
-    Ok(steps / STEPS_OF_A_PASS > graph.edge_count() as u64)
+    Ok(is_over_a_pass(graph, steps))
 }
 
 // The node that is moved.

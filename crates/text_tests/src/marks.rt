@@ -21,7 +21,7 @@ fn texts_are_put_into_nodes(rt: HostRuntime) -> Result<(), Fail> {
         "graph [\n  node [\n    spqrRotation \"0\"\n    id 0\n    spqrRotation \"x\"\n  ]\n  node 3\n  edge [\n    source 0\n    target 1\n  ]\n  node [\n    id 1\n    a [\n      spqrRotation 2\n    ]\n    spqrRotation \"0\"\n  ]\n]\ngraph 1\n";
     let document = read(rt.alloc(), text.as_bytes())?;
     let texts = texts_of_an_edge(rt.alloc())?;
-    let written = write_marked(rt.alloc(), &document, texts.as_slice())?;
+    let written = write_marked(rt.alloc(), &document, texts.as_slice(), 0)?;
     assert_eq!(rt; written.as_slice(), expected.as_bytes());
     let again = read(rt.alloc(), written.as_slice())?;
     let named = graph_of(rt.alloc(), &again)?;

@@ -42,6 +42,13 @@ fn push_entries(out: &mut Vec<u8>, part: &Part, lists: &FlatLists<u32>) -> Resul
     Ok(())
 }
 
+/// How many bytes are enough for the line of a rotation system of a block, since no number of a vertex, an edge or a block has more than
+/// five digits.
+pub fn rotation_room(part: &Part) -> usize {
+    let graph = part.graph();
+    32 + 12 * graph.edge_count() as usize + 8 * graph.vertex_count() as usize
+}
+
 /// Appends the line `rotation B | V: E ..; V: E ..` to a text: a rotation system of a block, its vertices increasing, each list
 /// from its least edge on, in the numbers of the whole graph. Fails only if memory runs out; the text may then end in a part of
 /// the line.
@@ -74,7 +81,7 @@ pub fn rotation_line(
     requires { IsRotationSystem part.now.graph r.now }
     ensures { IfOk result (λ text. text.items ≡ rotation_text part.now b r.now) }
 {
-    let mut out = Vec::new(alloc);
+    let mut out = Vec::with_capacity(alloc, rotation_room(part))?;
     push_rotation_line(alloc, &mut out, b, part, r)?;
     Ok(out)
 }

@@ -17,6 +17,11 @@ use gml_text::Doc;
 use multigraph::Graph;
 use std::alloc::{AllocError, Global};
 
+// How many bytes are enough for the document with the present embedding, if its nodes and edges have nothing but ids and ends.
+fn document_room(graph: &Graph) -> usize {
+    64 * (graph.vertex_count() as usize + graph.edge_count() as usize)
+}
+
 // The line `gml T`.
 fn length_line(alloc: Global, length: usize) -> Result<Vec<u8>, AllocError>
     ensures { IfOk result (λ line. line.items ≡ codes "gml " ++ decimal length ++ line_end) }
@@ -49,6 +54,6 @@ pub(crate) fn carry_gml(
         → IfOk result (λ text. GmlStep setting s text.items s) }
 {
     let texts = present_texts(alloc, graph.vertex_count(), blocks)?;
-    let text = write_marked(alloc, doc, &texts)?;
+    let text = write_marked(alloc, doc, &texts, document_room(graph))?;
     with_length(alloc, text)
 }

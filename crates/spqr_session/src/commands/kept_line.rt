@@ -14,8 +14,11 @@ ghost use Rattle.spqr_session.specs.KeptLine.{separator, text_at, edges_around, 
 use decimals::{push_number, push_spaced, push_word};
 use multigraph::{Graph, Part, dart_count, tail};
 use rotations::{RotIter, Rotation};
-use spqr_script::push_rotation_line;
+use spqr_script::{push_rotation_line, rotation_room};
 use std::alloc::{AllocError, Global};
+
+// The line after the last member has no more bytes.
+const LAST_LINE: usize = 8;
 
 // The line of a rotation system of a block, the place in it of each vertex's entry, and for each dart the edge that follows its edge
 // around the vertex that it leaves. Beside them marks of the vertices whose entries may have changed, and room for the numbers of one
@@ -131,7 +134,7 @@ impl KeptLine {
     {
         let g = part.graph();
         let count = g.vertex_count() as usize;
-        let mut line = Vec::new(alloc);
+        let mut line = Vec::with_capacity(alloc, rotation_room(part))?;
         push_word(&mut line, b"rotation ")?;
         push_number(&mut line, u128::from(b))?;
         push_word(&mut line, b" |")?;
@@ -257,8 +260,8 @@ fn line_of(
     }
 }
 
-// Appends the line of a rotation system of block b to a text with room for this many lines, and keeps it. Of a block with two vertices no
-// line is kept: no two of its rotation systems have the same entry.
+// Appends the line of a rotation system of block b to a text with room for this many lines and the last one, and keeps it. Of a block
+// with two vertices no line is kept: no two of its rotation systems have the same entry.
 pub(super) fn push_member(
     alloc: Global,
     out: &mut Vec<u8>,
@@ -280,7 +283,8 @@ pub(super) fn push_member(
         return Ok(None);
     }
     let kept = line_of(alloc, before, b, part, r)?;
-    out.reserve(kept.text().len().saturating_mul(lines as usize))?;
+    let room = kept.text().len().saturating_mul(lines as usize);
+    out.reserve(room.saturating_add(LAST_LINE))?;
     out.extend_from_slice(kept.text())?;
     Ok(Some(kept))
 }
